@@ -1,0 +1,6 @@
+pub mod Bytes
+pub mod HeadLaws
+pub mod Texts
+pub mod FieldLaws
+pub mod ReadLaws
+pub mod ItemLaws

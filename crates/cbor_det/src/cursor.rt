@@ -1,0 +1,155 @@
+ghost use Rattle.std.specs.Prelude.{◌≡◌, ℕ, ◌-◌, ◌^◌, ◌<◌, ◌≤◌, ◌↔◌, ℤ, List, [], ◌++◌, length, Ok, Err, IfOk, IfErr, IsOkAnd, IsTrue, IsUtf8};
+ghost use Rattle.cbor_det.specs.Head.{head};
+ghost use Rattle.cbor_det.specs.Item.{Item, Simple, FitsInt, spell, spell_int};
+ghost use Rattle.cbor_det.specs.Reading.{argument_at, int_at, bytes_at, text_at, simple_at};
+
+use crate::fault::{CborFault, Stop};
+use crate::fields::{argument_of, bytes_of, int_of, simple_of, text_of};
+use crate::simple::Simple;
+
+/// A place in some bytes, from which items are read one after the other.
+///
+/// A read gives the item that stands at the place and goes just past it. Where no such item stands
+/// there, it answers the first fault, and the cursor stays. No read takes memory.
+#[derive(Clone, Copy)]
+pub struct Cursor<'a> {
+    len: usize,
+    rest: &'a [u8],
+    ghost in_range: { length rest.now ≤ len },
+}
+
+impl<'a> Cursor<'a> {
+    ghost use Rattle.cbor_det.specs.Slices.{seen_stop, Inside};
+    ghost use Rattle.cbor_det.specs.Unread.{unread, place, Reads, Took};
+
+    /// The place at the start of the bytes.
+    pub fn new(bytes: &'a [u8]) -> Cursor<'a>
+        ensures { unread result ≡ record { len = length bytes.now; rest = bytes.now } }
+    {
+        Cursor {
+            len: bytes.len(),
+            rest: bytes,
+        }
+    }
+
+    /// How many bytes stand before the place.
+    pub fn at(&self) -> usize
+        ensures { result ≡ (unread self.now).len - length (unread self.now).rest }
+    {
+        self.len - self.rest.len()
+    }
+
+    /// Whether the place is the end of the bytes.
+    pub fn is_end(&self) -> bool
+        ensures { IsTrue result ↔ ((unread self.now).rest ≡ []) }
+    {
+        self.rest.is_empty()
+    }
+
+    /// A fault by its place in all of the bytes.
+    fn fault(&self, stop: Stop) -> CborFault
+        requires { stop.left ≤ length (unread self.now).rest }
+        ensures { result ≡ place (unread self.now).len (seen_stop stop) }
+    {
+        CborFault {
+            at: self.len - stop.left,
+            why: stop.why,
+        }
+    }
+
+    /// Goes past what was read from the place, or says where the fault is.
+    fn past<T>(&mut self, read: Result<(T, &'a [u8]), Stop>) -> Result<T, CborFault>
+        requires { Inside read (unread self.old).rest }
+        ensures ok { IfOk read.entry (λ x. (result ≡ Ok x.0) × ((unread self.new).rest ≡ x.1.now)
+            × ((unread self.new).len ≡ (unread self.old).len)) }
+        ensures err { IfErr read.entry (λ s. (result ≡ Err (place (unread self.old).len (seen_stop s)))
+            × (unread self.new ≡ unread self.old)) }
+    {
+        match read {
+            Ok((value, rest)) => {
+                self.rest = rest;
+                Ok(value)
+            }
+            Err(stop) => Err(self.fault(stop)),
+        }
+    }
+
+    /// A number of major type 0.
+    pub fn uint(&mut self) -> Result<u64, CborFault>
+        ensures exact { Reads (λ n. n) (unread self.old) (unread self.new) result (argument_at 0) }
+        // A number that is read is spelled so, and one that is spelled here is read; likewise below.
+        ensures found { IfOk result (λ n. (n < 2 ^ 64)
+            × Took (head 0 n) (unread self.old) (unread self.new)) }
+        ensures only { (n : ℕ) (more : List ℕ) → n < 2 ^ 64
+            → (unread self.old).rest ≡ head 0 n ++ more
+            → (result ≡ Ok n) × ((unread self.new).rest ≡ more) }
+    {
+        let read = argument_of(0, self.rest);
+        self.past(read)
+    }
+
+    /// A number of major type 0 or 1: from -2^64 to 2^64 - 1.
+    pub fn int(&mut self) -> Result<i128, CborFault>
+        ensures exact { Reads (λ n. n) (unread self.old) (unread self.new) result int_at }
+        ensures found { IfOk result (λ n. FitsInt n
+            × Took (spell_int n) (unread self.old) (unread self.new)) }
+        ensures only { (n : ℤ) (more : List ℕ) → FitsInt n
+            → (unread self.old).rest ≡ spell_int n ++ more
+            → (result ≡ Ok n) × ((unread self.new).rest ≡ more) }
+    {
+        let read = int_of(self.rest);
+        self.past(read)
+    }
+
+    /// A byte string.
+    pub fn bytes(&mut self) -> Result<&'a [u8], CborFault>
+        ensures exact { Reads (λ b. b.now) (unread self.old) (unread self.new) result bytes_at }
+        ensures found { IfOk result (λ b. (length b.now < 2 ^ 64)
+            × Took (spell (Item.bytes b.now)) (unread self.old) (unread self.new)) }
+        ensures only { (b more : List ℕ) → length b < 2 ^ 64
+            → (unread self.old).rest ≡ spell (Item.bytes b) ++ more
+            → IsOkAnd result (λ r. r.now ≡ b) × ((unread self.new).rest ≡ more) }
+    {
+        let read = bytes_of(self.rest);
+        self.past(read)
+    }
+
+    /// A text.
+    pub fn text(&mut self) -> Result<&'a str, CborFault>
+        ensures exact { Reads (λ t. t.now) (unread self.old) (unread self.new) result text_at }
+        ensures found { IfOk result (λ t. (length t.now < 2 ^ 64) × IsUtf8 t.now
+            × Took (spell (Item.text t.now)) (unread self.old) (unread self.new)) }
+        ensures only { (t more : List ℕ) → length t < 2 ^ 64 → IsUtf8 t
+            → (unread self.old).rest ≡ spell (Item.text t) ++ more
+            → IsOkAnd result (λ r. r.now ≡ t) × ((unread self.new).rest ≡ more) }
+    {
+        let read = text_of(self.rest);
+        self.past(read)
+    }
+
+    /// The head of an array: how many items follow it.
+    pub fn array(&mut self) -> Result<u64, CborFault>
+        ensures exact { Reads (λ n. n) (unread self.old) (unread self.new) result (argument_at 4) }
+        ensures found { IfOk result (λ n. (n < 2 ^ 64)
+            × Took (head 4 n) (unread self.old) (unread self.new)) }
+        ensures only { (n : ℕ) (more : List ℕ) → n < 2 ^ 64
+            → (unread self.old).rest ≡ head 4 n ++ more
+            → (result ≡ Ok n) × ((unread self.new).rest ≡ more) }
+    {
+        let read = argument_of(4, self.rest);
+        self.past(read)
+    }
+
+    /// False, true or null.
+    pub fn simple(&mut self) -> Result<Simple, CborFault>
+        ensures exact { Reads (λ s. s) (unread self.old) (unread self.new) result simple_at }
+        ensures found { IfOk result (λ s.
+            Took (spell (Item.simple s)) (unread self.old) (unread self.new)) }
+        ensures only { (s : Simple) (more : List ℕ)
+            → (unread self.old).rest ≡ spell (Item.simple s) ++ more
+            → (result ≡ Ok s) × ((unread self.new).rest ≡ more) }
+    {
+        let read = simple_of(self.rest);
+        self.past(read)
+    }
+}

@@ -1,0 +1,21 @@
+//! Deterministic CBOR (RFC 8949) for reading: one spelling of each item, and a fault at its place.
+//! Stands on std, and on `simdutf8` for the test of texts.
+//!
+//! Heads have the shortest argument and no indefinite length, and major type 7 has false, true and
+//! null alone.
+#![tactic(auto)]
+
+mod cursor;
+mod fault;
+mod fields;
+mod head;
+mod owned;
+mod simple;
+
+pub use cursor::Cursor;
+pub use fault::{CborFault, Why};
+pub use owned::{OwnBytes, OwnText};
+pub use simple::Simple;
+
+#[cfg(test)]
+mod tests;

@@ -1,0 +1,10 @@
+pub mod Status
+pub mod Words
+pub mod Orders
+pub mod Meaning
+pub mod Run
+pub mod Input
+pub mod Values
+pub mod Document
+pub mod Grammar
+pub mod SmallFile

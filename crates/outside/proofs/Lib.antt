@@ -1,0 +1,2 @@
+pub mod FileEntries
+pub mod Untold

@@ -1,0 +1,10 @@
+pub mod Faults
+pub mod Files
+pub mod HostFaults
+pub mod Keeper
+pub mod MemFiles
+pub mod Memory
+pub mod Plan
+pub mod Printed
+pub mod Sink
+pub mod Work
