@@ -1,5 +1,5 @@
 -- Lists of counts, and the empty base: what is read is spelled so, and what is spelled so is read.
-use Rattle.std.proofs.Common.{◌≡◌, ℕ, zero, suc, ◌+◌, ◌-◌, ◌^◌, ◌<◌, ◌≤◌, List, [], ◌∷◌, ◌++◌, length, replicate, set, Option, Some, refl, sym, ap, subst, ◌∙◌, append_assoc, arith, lit<}
+use Rattle.std.proofs.Common.{◌≡◌, ℕ, zero, suc, ◌+◌, ◌-◌, ◌^◌, ◌<◌, List, [], ◌∷◌, ◌++◌, length, replicate, set, sym, ap, subst, ◌∙◌, append_assoc, arith, lit<}
 use Rattle.std.specs.Prelude.{flat_map}
 use Rattle.std.specs.List.{AllByRecursion}
 use Rattle.std.proofs.lemmas.List.{append-nil, length-replicate, length-set}
@@ -60,11 +60,11 @@ unfolding past_own_counts
 GoesPast-own_counts n member own lt few most =
     let later : ℕ = n - (member + 1) in
     let spelled : head 4 n ++ (zeros member ++ (head 0 own ++ zeros later)) ≡ spell_numbers (own_counts n member own) =
-          ap (λ (t : List ℕ). head 4 n ++ t) (sym (own_spelled n member own lt)) ∙ ap (λ (k : ℕ). head 4 k ++ flat_map (head 0) (own_counts n member own)) (sym (length-own_counts n member own)) ∙ sym (numbers_spelled (own_counts n member own)) in
+    ap (λ (t : List ℕ). head 4 n ++ t) (sym (own_spelled n member own lt)) ∙ ap (λ (k : ℕ). head 4 k ++ flat_map (head 0) (own_counts n member own)) (sym (length-own_counts n member own)) ∙ sym (numbers_spelled (own_counts n member own)) in
     subst (GoesPast (λ bytes. past_head 4 n bytes >>= λ counts. past_zeros member counts >>= λ before. past_head 0 own before >>= λ count. past_zeros later count)) spelled
-      (GoesPast-then (past_head 4 n) (λ counts. past_zeros member counts >>= λ before. past_head 0 own before >>= λ count. past_zeros later count) (head 4 n) (zeros member ++ (head 0 own ++ zeros later)) (GoesPast-head 4 n (lit< tt) few)
-        (GoesPast-then (past_zeros member) (λ before. past_head 0 own before >>= λ count. past_zeros later count) (zeros member) (head 0 own ++ zeros later) (GoesPast-zeros member)
-          (GoesPast-then (past_head 0 own) (λ count. past_zeros later count) (head 0 own) (zeros later) (GoesPast-head 0 own (lit< tt) most) (GoesPast-zeros later))))
+    (GoesPast-then (past_head 4 n) (λ counts. past_zeros member counts >>= λ before. past_head 0 own before >>= λ count. past_zeros later count) (head 4 n) (zeros member ++ (head 0 own ++ zeros later)) (GoesPast-head 4 n (lit< tt) few)
+    (GoesPast-then (past_zeros member) (λ before. past_head 0 own before >>= λ count. past_zeros later count) (zeros member) (head 0 own ++ zeros later) (GoesPast-zeros member)
+    (GoesPast-then (past_head 0 own) (λ count. past_zeros later count) (head 0 own) (zeros later) (GoesPast-head 0 own (lit< tt) most) (GoesPast-zeros later))))
 
 -- ---- the empty base
 
@@ -74,8 +74,8 @@ GoesPast-row n few =
     let known : List ℕ = spell_numbers (replicate n 0) in
     let spelled : head 4 3 ++ (zeros 2 ++ known) ≡ cbor.spell (empty_row_item n) = simp (append_assoc, append-nil) in
     subst (GoesPast (λ bytes. past_head 4 3 bytes >>= λ fields. past_zeros 2 fields >>= λ numbers. past_no_counts n numbers)) spelled
-      (GoesPast-then (past_head 4 3) (λ fields. past_zeros 2 fields >>= λ numbers. past_no_counts n numbers) (head 4 3) (zeros 2 ++ known) (GoesPast-head 4 3 (lit< tt) (lit< tt))
-        (GoesPast-then (past_zeros 2) (λ numbers. past_no_counts n numbers) (zeros 2) known (GoesPast-zeros 2) (GoesPast-no_counts n few)))
+    (GoesPast-then (past_head 4 3) (λ fields. past_zeros 2 fields >>= λ numbers. past_no_counts n numbers) (head 4 3) (zeros 2 ++ known) (GoesPast-head 4 3 (lit< tt) (lit< tt))
+    (GoesPast-then (past_zeros 2) (λ numbers. past_no_counts n numbers) (zeros 2) known (GoesPast-zeros 2) (GoesPast-no_counts n few)))
 
 abbrev rows_item : ℕ → cbor.Item
 rows_item n = cbor.list (cbor.items_of (replicate n (empty_row_item n)))
@@ -86,7 +86,7 @@ GoesPast-rows n few =
     let rows : List ℕ = flat_map cbor.spell (replicate n (empty_row_item n)) in
     let spelled : head 4 n ++ rows ≡ cbor.spell (rows_item n) = ap (λ (k : ℕ). head 4 k ++ rows) (sym (length-replicate n (empty_row_item n))) ∙ sym (spell-list (replicate n (empty_row_item n))) in
     subst (GoesPast (λ bytes. past_head 4 n bytes >>= past_many (past_row n) n)) spelled
-      (GoesPast-then (past_head 4 n) (past_many (past_row n) n) (head 4 n) rows (GoesPast-head 4 n (lit< tt) few) (GoesPast-many (past_row n) cbor.spell (empty_row_item n) n (GoesPast-row n few)))
+    (GoesPast-then (past_head 4 n) (past_many (past_row n) n) (head 4 n) rows (GoesPast-head 4 n (lit< tt) few) (GoesPast-many (past_row n) cbor.spell (empty_row_item n) n (GoesPast-row n few)))
 
 abbrev tables : List ℕ
 tables = flat_map cbor.spell (replicate 6 empty_table_item)
@@ -99,5 +99,5 @@ pub GoesPast-base : (n : ℕ) → n < 2 ^ 64 → GoesPast (past_base n) (cbor.sp
 unfolding past_base
 GoesPast-base n few =
     GoesPast-then (past_head 4 8) (λ fields. past_head 0 0 fields >>= λ horizon. past_rows n horizon >>= λ rows. past_tables rows) (head 4 8) (head 0 0 ++ (cbor.spell (rows_item n) ++ tables)) (GoesPast-head 4 8 (lit< tt) (lit< tt))
-      (GoesPast-then (past_head 0 0) (λ horizon. past_rows n horizon >>= λ rows. past_tables rows) (head 0 0) (cbor.spell (rows_item n) ++ tables) (GoesPast-head 0 0 (lit< tt) (lit< tt))
-        (GoesPast-then (past_rows n) (λ rows. past_tables rows) (cbor.spell (rows_item n)) tables (GoesPast-rows n few) GoesPast-tables))
+    (GoesPast-then (past_head 0 0) (λ horizon. past_rows n horizon >>= λ rows. past_tables rows) (head 0 0) (cbor.spell (rows_item n) ++ tables) (GoesPast-head 0 0 (lit< tt) (lit< tt))
+    (GoesPast-then (past_rows n) (λ rows. past_tables rows) (cbor.spell (rows_item n)) tables (GoesPast-rows n few) GoesPast-tables))

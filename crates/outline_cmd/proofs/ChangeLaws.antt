@@ -1,5 +1,5 @@
 -- A change that follows another: what is read is spelled so, and what is spelled so is read.
-use Rattle.std.proofs.Common.{◌≡◌, ℕ, zero, suc, ◌+◌, ◌^◌, ◌<◌, ◌≤◌, Bool, true, false, cond, leb, inl, inr, List, [], ◌∷◌, ◌++◌, length, get_or, Option, Some, None, refl, sym, ap, subst, ◌∙◌, append_assoc, arith, lit<, lit≤}
+use Rattle.std.proofs.Common.{◌≡◌, ℕ, ◌+◌, ◌^◌, ◌<◌, ◌≤◌, true, leb, inl, inr, List, ◌++◌, length, Some, refl, sym, ap, subst, ◌∙◌, append_assoc, arith, lit<, lit≤}
 use Rattle.std.specs.Prelude.{flat_map}
 use Rattle.std.specs.Result.{result_ok}
 use Rattle.std.specs.List.{AllByRecursion}
@@ -15,11 +15,11 @@ use Rattle.model.specs.Value.{Operation, IsOperation, operation_item}
 use Rattle.model.specs.Change.{Change, change_item}
 use Rattle.model.specs.File.{WritesRoot}
 use Rattle.outline_cmd.specs.declared.replica.Last.{Last}
-use Rattle.outline_cmd.specs.Grammar.{◌>>=◌, past_head, body_at}
-use Rattle.outline_cmd.specs.SmallFile.{number_at, own_counts, past_own_counts, may_follow, maker_at, time_at, work_at, puts_at, change_at, changes_at, last_of}
+use Rattle.outline_cmd.specs.Grammar.{past_head, body_at}
+use Rattle.outline_cmd.specs.SmallFile.{number_at, own_counts, past_own_counts, may_follow, maker_at, time_at, work_at, puts_at, change_at}
 use Rattle.outline_cmd.proofs.ReaderLaws.{bind_some, given_some, some_is, IsReader}
 use Rattle.outline_cmd.proofs.GrammarLaws.{body_takes, body_again, width_is}
-use Rattle.outline_cmd.proofs.PartLaws.{GoesPast, GoesPast-then, GoesPast-head, IsWithin, number_reader}
+use Rattle.outline_cmd.proofs.PartLaws.{GoesPast-head, IsWithin, number_reader}
 use Rattle.outline_cmd.proofs.HeaderLaws.{spell_bytes}
 use Rattle.outline_cmd.proofs.BaseLaws.{spell_numbers, GoesPast-own_counts}
 
@@ -52,9 +52,10 @@ puts_taken n count bytes counted widened body rest os some fits t1 t2 t3 few sho
     let all : IsBytes ((head 2 (length body) ++ body) ++ rest) = subst IsBytes t3.parts t2.rest_fits in
     let b = body_takes n count body os some (IsBytes-right (head 2 (length body)) body (IsBytes-left (head 2 (length body) ++ body) rest all)) e in
     let whole : Takes bytes (head 0 count ++ (head 0 count ++ spell_bytes body)) rest = Takes-then bytes (head 0 count) counted (head 0 count ++ spell_bytes body) rest t1 (Takes-then counted (head 0 count) widened (spell_bytes body) rest t2 t3) in
-    let counts : Takes bytes (head 0 (length os) ++ (head 0 (length os) ++ spell_bytes body)) rest = subst (λ (k : ℕ). Takes bytes (head 0 k ++ (head 0 k ++ spell_bytes body)) rest) (sym b.1) whole in
-    (subst (λ (t : List ℕ). Takes bytes (head 0 (length os) ++ (head 0 (length os) ++ spell_bytes t)) rest) b.0 counts,
-      record { few = omega (arith, b.1); short = subst (λ (t : List ℕ). length t ≤ 1048576) b.0 short; are = b.2; on_root = b.3 })
+    let counts : Takes bytes (head 0 (length os) ++ (head 0 (length os) ++ spell_bytes body)) rest = subst (λ (k : ℕ). Takes bytes (head 0 k ++ (head 0 k ++ spell_bytes body)) rest) (sym b.1) whole in (
+      subst (λ (t : List ℕ). Takes bytes (head 0 (length os) ++ (head 0 (length os) ++ spell_bytes t)) rest) b.0 counts,
+      record { few = omega (arith, b.1); short = subst (λ (t : List ℕ). length t ≤ 1048576) b.0 short; are = b.2; on_root = b.3 },
+    )
 
 -- the count, the width and the body
 record TakesWork (bytes : List ℕ) (count : ℕ) (body rest : List ℕ) : Type 0 where
@@ -78,7 +79,7 @@ work_takes bytes count body rest fits e =
     let t2 = (GoesPast-head 0 s1.0.0 (lit< tt) (omega arith)).takes s1.0.1 s2.0 t1.0.rest_fits s2.1 in
     let t3 = bytes_takes s2.0 s3.0.0 s3.0.1 t2.rest_fits (given_some (bytes_at s2.0) s3.0 s3.1) in
     subst (λ (f : (ℕ × List ℕ) × List ℕ). TakesWork bytes f.0.0 f.0.1 f.1) g.1
-      (record { counted = s1.0.1; widened = s2.0; take_count = t1.0; take_width = t2; take_body = t3.takes; few = few; short = leb-true _ _ g.0 })
+    (record { counted = s1.0.1; widened = s2.0; take_count = t1.0; take_width = t2; take_body = t3.takes; few = few; short = leb-true _ _ g.0 })
 
 puts_take : (n : ℕ) (bytes : List ℕ) (os : List Operation) (rest : List ℕ) → 1 ≤ n → IsBytes bytes → puts_at bytes ≡ Some (os, rest) → Takes bytes (spell_puts os) rest × ArePuts n os
 unfolding puts_at
@@ -87,13 +88,17 @@ puts_take n bytes os rest some fits e =
     let s2 = bind_some (body_at s1.0.0.0 s1.0.0.1) _ (os, rest) s1.2 in
     let t = work_takes bytes s1.0.0.0 s1.0.0.1 s1.0.1 fits s1.1 in
     subst (λ (f : List Operation × List ℕ). Takes bytes (spell_puts f.0) f.1 × ArePuts n f.0) (some_is (s2.0, s1.0.1) (os, rest) s2.2)
-      (puts_taken n s1.0.0.0 bytes t.counted t.widened s1.0.0.1 s1.0.1 s2.0 some fits t.take_count t.take_width t.take_body t.few t.short s2.1)
+    (puts_taken n s1.0.0.0 bytes t.counted t.widened s1.0.0.1 s1.0.1 s2.0 some fits t.take_count t.take_width t.take_body t.few t.short s2.1)
 
 work_again : (count : ℕ) (body more : List ℕ) → count ≤ 65536 → length body ≤ 1048576 → work_at (head 0 count ++ (head 0 count ++ (spell_bytes body ++ more))) ≡ Some ((count, body), more)
 unfolding work_at
 work_again count body more few short =
-    rw ((number_reader 0 65537 (lit≤ tt)).again count (head 0 count ++ (spell_bytes body ++ more)) (record { least = omega arith; most = omega arith }),
-        (GoesPast-head 0 count (lit< tt) (omega arith)).again (spell_bytes body ++ more), bytes_again body more (omega arith), le-leb _ _ short) refl
+    rw (
+      (number_reader 0 65537 (lit≤ tt)).again count (head 0 count ++ (spell_bytes body ++ more)) (record { least = omega arith; most = omega arith }),
+      (GoesPast-head 0 count (lit< tt) (omega arith)).again (spell_bytes body ++ more),
+      bytes_again body more (omega arith),
+      le-leb _ _ short,
+    ) refl
 
 puts_again : (n : ℕ) (os : List Operation) (more : List ℕ) → ArePuts n os → puts_at (spell_puts os ++ more) ≡ Some (os, more)
 unfolding puts_at
@@ -117,17 +122,17 @@ maker_reader : (n : ℕ) (last : Last) → n ≤ 2 ^ 64 → IsReader (maker_at n
 unfolding maker_at
 maker_reader n last bound = record {
   takes = λ bytes x rest fits e.
-    let s1 = bind_some (past_head 4 7 bytes) _ (x, rest) e in
-    let s2 = bind_some (number_at 0 n s1.0) _ (x, rest) s1.2 in
-    let g = cond_some (may_follow last.member s2.0.0) s2.0 (x, rest) s2.2 in
-    let t1 = (GoesPast-head 4 7 (lit< tt) (lit< tt)).takes bytes s1.0 fits s1.1 in
-    let t2 = (number_reader 0 n bound).takes s1.0 s2.0.0 s2.0.1 t1.rest_fits s2.1 in
-    subst (λ (f : ℕ × List ℕ). Takes bytes (spell_maker f.0) f.1 × IsMaker n last f.0) g.1
+      let s1 = bind_some (past_head 4 7 bytes) _ (x, rest) e in
+      let s2 = bind_some (number_at 0 n s1.0) _ (x, rest) s1.2 in
+      let g = cond_some (may_follow last.member s2.0.0) s2.0 (x, rest) s2.2 in
+      let t1 = (GoesPast-head 4 7 (lit< tt) (lit< tt)).takes bytes s1.0 fits s1.1 in
+      let t2 = (number_reader 0 n bound).takes s1.0 s2.0.0 s2.0.1 t1.rest_fits s2.1 in
+      subst (λ (f : ℕ × List ℕ). Takes bytes (spell_maker f.0) f.1 × IsMaker n last f.0) g.1
       (Takes-then bytes (head 4 7) s1.0 (head 0 s2.0.0) s2.0.1 t1 t2.0, record { below = t2.1.most; follows = g.0 });
   again = λ x more is.
-    let follows : may_follow last.member x ≡ true = is.follows in
-    ap (maker_at n last) (append_assoc (head 4 7) (head 0 x) more)
-    ∙ rw ((GoesPast-head 4 7 (lit< tt) (lit< tt)).again (head 0 x ++ more), (number_reader 0 n bound).again x more (record { least = omega arith; most = is.below }), follows) refl;
+      let follows : may_follow last.member x ≡ true = is.follows in
+      ap (maker_at n last) (append_assoc (head 4 7) (head 0 x) more)
+      ∙ rw ((GoesPast-head 4 7 (lit< tt) (lit< tt)).again (head 0 x ++ more), (number_reader 0 n bound).again x more (record { least = omega arith; most = is.below }), follows) refl;
 }
 
 abbrev spell_time : ℕ → ℕ → List ℕ
@@ -137,13 +142,13 @@ time_reader : (last : Last) → last.number + 1 < 2 ^ 64 → IsReader (time_at l
 unfolding time_at
 time_reader last bound = record {
   takes = λ bytes x rest fits e.
-    let s1 = bind_some (past_head 0 (last.number + 1) bytes) _ (x, rest) e in
-    let t1 = (GoesPast-head 0 (last.number + 1) (lit< tt) bound).takes bytes s1.0 fits s1.1 in
-    let t2 = (number_reader (last.time + 1) (2 ^ 48) (lit≤ tt)).takes s1.0 x rest t1.rest_fits s1.2 in
-    (Takes-then bytes (head 0 (last.number + 1)) s1.0 (head 0 x) rest t1 t2.0, t2.1);
+      let s1 = bind_some (past_head 0 (last.number + 1) bytes) _ (x, rest) e in
+      let t1 = (GoesPast-head 0 (last.number + 1) (lit< tt) bound).takes bytes s1.0 fits s1.1 in
+      let t2 = (number_reader (last.time + 1) (2 ^ 48) (lit≤ tt)).takes s1.0 x rest t1.rest_fits s1.2 in
+      (Takes-then bytes (head 0 (last.number + 1)) s1.0 (head 0 x) rest t1 t2.0, t2.1);
   again = λ x more is.
-    ap (time_at last) (append_assoc (head 0 (last.number + 1)) (head 0 x) more)
-    ∙ rw ((GoesPast-head 0 (last.number + 1) (lit< tt) bound).again (head 0 x ++ more)) ((number_reader (last.time + 1) (2 ^ 48) (lit≤ tt)).again x more is);
+      ap (time_at last) (append_assoc (head 0 (last.number + 1)) (head 0 x) more)
+      ∙ rw ((GoesPast-head 0 (last.number + 1) (lit< tt) bound).again (head 0 x ++ more)) ((number_reader (last.time + 1) (2 ^ 48) (lit≤ tt)).again x more is);
 }
 
 -- ---- changes
@@ -184,7 +189,7 @@ change_takes n last bytes c rest some few bound fits e =
     let t14 = Takes-then bytes (spell_maker found.member) s1.0.1 (spell_time found.number found.time ++ (spell_numbers found.causes ++ spell_puts found.operations)) s4.0.1 t1.0 t24 in
     let is : IsNext n last found = record { maker = t1.1; number = refl; time = t2.1; causes = refl; puts = t4.1 } in
     subst (λ (f : Change × List ℕ). Takes bytes (cbor.spell (change_item f.0)) f.1 × IsNext n last f.0) (some_is (found, s4.0.1) (c, rest) s4.2)
-      (subst (λ (t : List ℕ). Takes bytes t s4.0.1) (sym (change_spelled found)) t14, is)
+    (subst (λ (t : List ℕ). Takes bytes t s4.0.1) (sym (change_spelled found)) t14, is)
 
 -- with the number and the causes as they must be
 next_again : (n : ℕ) (last : Last) (member time : ℕ) (os : List Operation) (more : List ℕ) → n < 2 ^ 64 → last.number + 1 < 2 ^ 64 → IsMaker n last member → IsWithin (last.time + 1) (2 ^ 48) time → ArePuts n os
@@ -197,8 +202,12 @@ next_again n last member time os more few bound maker later puts =
     let after_maker : List ℕ = spell_time (last.number + 1) time ++ after_time in
     let regrouped : cbor.spell (change_item c) ++ more ≡ spell_maker member ++ after_maker = rw (change_spelled c) (simp append_assoc) in
     ap (change_at n last) regrouped
-    ∙ rw ((maker_reader n last (omega arith)).again member after_maker maker, (time_reader last bound).again time after_time later,
-        (GoesPast-own_counts n member last.number maker.below few (omega arith)).again after_causes, puts_again n os more puts) refl
+    ∙ rw (
+      (maker_reader n last (omega arith)).again member after_maker maker,
+      (time_reader last bound).again time after_time later,
+      (GoesPast-own_counts n member last.number maker.below few (omega arith)).again after_causes,
+      puts_again n os more puts,
+    ) refl
 
 pub change_again : (n : ℕ) (last : Last) (c : Change) (more : List ℕ) → n < 2 ^ 64 → last.number + 1 < 2 ^ 64 → IsNext n last c → change_at n last (cbor.spell (change_item c) ++ more) ≡ Some (c, more)
 change_again n last c more few bound is =

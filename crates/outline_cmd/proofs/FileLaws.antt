@@ -1,5 +1,5 @@
 -- A small file: what is read is spelled so, what is spelled so is read, and so bytes spell at most one.
-use Rattle.std.proofs.Common.{◌≡◌, ℕ, zero, suc, ◌+◌, ◌^◌, ◌<◌, ◌≤◌, cond, eqb, List, [], ◌∷◌, ◌++◌, length, Option, Some, None, refl, sym, ap, subst, ◌∙◌, append_assoc, arith, lit<, lit≤}
+use Rattle.std.proofs.Common.{◌≡◌, ℕ, ◌+◌, ◌^◌, ◌<◌, ◌≤◌, eqb, List, [], ◌∷◌, ◌++◌, length, Some, refl, sym, ap, subst, ◌∙◌, arith}
 use Rattle.std.specs.List.{AllByRecursion}
 use Rattle.std.specs.List.Sorted.{IsStrictlySortedBy}
 use Rattle.std.specs.declared.cmp.Ordering.TheVariants.{Less}
@@ -11,13 +11,12 @@ use Rattle.std.proofs.lemmas.Option.{cond_some}
 use Rattle.std.proofs.lemmas.List.{append-nil, nil_from_length}
 use Rattle.cbor_det.specs.Head.{IsBytes}
 use Rattle.cbor_det.specs.Item as cbor
-use Rattle.cbor_det.proofs.Bytes.{Takes, Takes-then}
+use Rattle.cbor_det.proofs.Bytes.{Takes-then}
 use Rattle.model.specs.Change.{Change}
-use Rattle.model.specs.File.{File, header_item, empty_base_item, spell_file, IsFile, file_limit, IsSmall, SpellsSmall}
-use Rattle.outline_cmd.specs.Grammar.{◌>>=◌}
+use Rattle.model.specs.File.{File, empty_base_item, spell_file, IsFile, file_limit, IsSmall, SpellsSmall}
 use Rattle.outline_cmd.specs.SmallFile.{Header, header_at, past_base, no_change, changes_at, small_at}
 use Rattle.outline_cmd.proofs.ReaderLaws.{bind_some, some_is}
-use Rattle.outline_cmd.proofs.PartLaws.{IsWithin, Rises}
+use Rattle.outline_cmd.proofs.PartLaws.{Rises}
 use Rattle.outline_cmd.proofs.HeaderLaws.{IsHeader, spell_header, header_takes, header_again, header_spelled}
 use Rattle.outline_cmd.proofs.BaseLaws.{GoesPast-base}
 use Rattle.outline_cmd.proofs.ChainLaws.{GoOn, spell_changes, changes_take, changes_again}
@@ -131,7 +130,7 @@ file_again f small =
     let go_on : GoOn f.members no_change f.kept = GoOn-from_rules f.members small.maker.0 f.kept is.changes small.maker.1 small.on_root is.in_order is.numbered in
     let base : List ℕ = cbor.spell (empty_base_item f.members) in
     let parts : spell_file f ≡ spell_header h ++ (base ++ (spell_changes f.kept ++ [])) =
-          ap (λ (t : List ℕ). t ++ (base ++ spell_changes f.kept)) (header_spelled f) ∙ ap (λ (t : List ℕ). spell_header h ++ (base ++ t)) (sym (append-nil (spell_changes f.kept))) in
+    ap (λ (t : List ℕ). t ++ (base ++ spell_changes f.kept)) (header_spelled f) ∙ ap (λ (t : List ℕ). spell_header h ++ (base ++ t)) (sym (append-nil (spell_changes f.kept))) in
     ap small_at parts
     ∙ rw (header_again h (base ++ (spell_changes f.kept ++ [])) (header_is f is), (GoesPast-base f.members (omega arith)).again (spell_changes f.kept ++ []), changes_again f.members no_change f.kept [] (omega arith) (omega arith) go_on) refl
 

@@ -1,9 +1,8 @@
 -- The header of a small file: what is read is spelled so, and what is spelled so is read.
-use Rattle.std.proofs.Common.{◌≡◌, ℕ, zero, suc, ◌+◌, ◌^◌, ◌<◌, ◌≤◌, cond, eqb, List, [], ◌∷◌, ◌++◌, length, replicate, set, Option, Some, None, refl, sym, ap, subst, ◌∙◌, append_assoc, arith, lit<, lit≤}
+use Rattle.std.proofs.Common.{◌≡◌, ℕ, ◌^◌, ◌<◌, cond, eqb, List, ◌++◌, length, Some, None, refl, sym, ap, subst, ◌∙◌, append_assoc, arith, lit<, lit≤}
 use Rattle.std.specs.Prelude.{flat_map, codes}
 use Rattle.std.specs.Result.{result_ok}
 use Rattle.std.specs.Str.{IsAscii}
-use Rattle.std.specs.List.{AllByRecursion}
 use Rattle.std.proofs.lemmas.Bool.{eqb-true, eq-eqb}
 use Rattle.std.proofs.lemmas.Option.{cond_some}
 use Rattle.std.proofs.lemmas.List.{append-nil}
@@ -38,8 +37,8 @@ GoesPast-title : GoesPast past_title title
 unfolding past_title
 GoesPast-title =
     GoesPast-then (past_head 4 8) (λ fields. past_text word fields >>= λ text. past_head 0 1 text >>= λ format. past_head 0 0 format) (head 4 8) (cbor.spell (cbor.text word) ++ (head 0 1 ++ head 0 0)) (GoesPast-head 4 8 (lit< tt) (lit< tt))
-      (GoesPast-then (past_text word) (λ text. past_head 0 1 text >>= λ format. past_head 0 0 format) (cbor.spell (cbor.text word)) (head 0 1 ++ head 0 0) (GoesPast-text word (lit< tt) (IsUtf8-from_ascii word word_ascii))
-        (GoesPast-then (past_head 0 1) (λ format. past_head 0 0 format) (head 0 1) (head 0 0) (GoesPast-head 0 1 (lit< tt) (lit< tt)) (GoesPast-head 0 0 (lit< tt) (lit< tt))))
+    (GoesPast-then (past_text word) (λ text. past_head 0 1 text >>= λ format. past_head 0 0 format) (cbor.spell (cbor.text word)) (head 0 1 ++ head 0 0) (GoesPast-text word (lit< tt) (IsUtf8-from_ascii word word_ascii))
+    (GoesPast-then (past_head 0 1) (λ format. past_head 0 0 format) (head 0 1) (head 0 0) (GoesPast-head 0 1 (lit< tt) (lit< tt)) (GoesPast-head 0 0 (lit< tt) (lit< tt))))
 
 abbrev pub IsDocument : List ℕ → Type 0
 IsDocument d = IsBytes d × (length d ≡ 16)
@@ -51,10 +50,10 @@ document_reader : IsReader document_at spell_bytes IsDocument
 unfolding document_at
 document_reader = record {
   takes = λ bytes x rest fits e.
-    let s = bind_some (result_ok (bytes_at bytes)) (λ id. cond (eqb (length id.0) 16) (Some id) None) (x, rest) e in
-    let g = cond_some (eqb (length s.0.0) 16) s.0 (x, rest) s.2 in
-    let t = bytes_takes bytes s.0.0 s.0.1 fits (given_some (bytes_at bytes) s.0 s.1) in
-    subst (λ (f : List ℕ × List ℕ). Takes bytes (spell_bytes f.0) f.1 × IsDocument f.0) g.1 (t.takes, (content_fits bytes (head 2 (length s.0.0)) s.0.0 s.0.1 fits t.takes, eqb-true (length s.0.0) 16 g.0));
+      let s = bind_some (result_ok (bytes_at bytes)) (λ id. cond (eqb (length id.0) 16) (Some id) None) (x, rest) e in
+      let g = cond_some (eqb (length s.0.0) 16) s.0 (x, rest) s.2 in
+      let t = bytes_takes bytes s.0.0 s.0.1 fits (given_some (bytes_at bytes) s.0 s.1) in
+      subst (λ (f : List ℕ × List ℕ). Takes bytes (spell_bytes f.0) f.1 × IsDocument f.0) g.1 (t.takes, (content_fits bytes (head 2 (length s.0.0)) s.0.0 s.0.1 fits t.takes, eqb-true (length s.0.0) 16 g.0));
   again = λ x more is. rw (bytes_again x more (omega (arith, is.1)), eq-eqb (length x) 16 is.1) refl;
 }
 
@@ -62,16 +61,16 @@ mine_reader : (n : ℕ) → n < 2 ^ 64 → IsReader (mine_at n) spell_numbers (R
 unfolding mine_at
 mine_reader n bound = record {
   takes = λ bytes x rest fits e.
-    let s = bind_some (result_ok (argument_at 4 bytes)) (λ count. rising_at n 0 count.0 count.1) (x, rest) e in
-    let front = argument_takes 4 bytes s.0.0 s.0.1 fits (given_some (argument_at 4 bytes) s.0 s.1) in
-    let numbers = rising_takes n 0 s.0.0 s.0.1 x rest (omega arith) front.takes.rest_fits s.2 in
-    let whole = Takes-then bytes (head 4 s.0.0) s.0.1 (flat_map (head 0) x) rest front.takes numbers.takes in
-    let spelled : head 4 s.0.0 ++ flat_map (head 0) x ≡ spell_numbers x = ap (λ (k : ℕ). head 4 k ++ flat_map (head 0) x) (sym numbers.count_is) ∙ sym (numbers_spelled x) in
-    (subst (λ (t : List ℕ). Takes bytes t rest) spelled whole, numbers.rises);
+      let s = bind_some (result_ok (argument_at 4 bytes)) (λ count. rising_at n 0 count.0 count.1) (x, rest) e in
+      let front = argument_takes 4 bytes s.0.0 s.0.1 fits (given_some (argument_at 4 bytes) s.0 s.1) in
+      let numbers = rising_takes n 0 s.0.0 s.0.1 x rest (omega arith) front.takes.rest_fits s.2 in
+      let whole = Takes-then bytes (head 4 s.0.0) s.0.1 (flat_map (head 0) x) rest front.takes numbers.takes in
+      let spelled : head 4 s.0.0 ++ flat_map (head 0) x ≡ spell_numbers x = ap (λ (k : ℕ). head 4 k ++ flat_map (head 0) x) (sym numbers.count_is) ∙ sym (numbers_spelled x) in
+      (subst (λ (t : List ℕ). Takes bytes t rest) spelled whole, numbers.rises);
   again = λ x more is.
-    let few = Rises-length n 0 x (omega arith) is in
-    ap (λ (t : List ℕ). mine_at n (t ++ more)) (numbers_spelled x) ∙ ap (mine_at n) (append_assoc (head 4 (length x)) (flat_map (head 0) x) more)
-    ∙ rw (argument_again 4 (length x) (flat_map (head 0) x ++ more) (is_argument 4 (length x) (lit< tt) (omega arith))) (rising_again n 0 x more (omega arith) is);
+      let few = Rises-length n 0 x (omega arith) is in
+      ap (λ (t : List ℕ). mine_at n (t ++ more)) (numbers_spelled x) ∙ ap (mine_at n) (append_assoc (head 4 (length x)) (flat_map (head 0) x) more)
+      ∙ rw (argument_again 4 (length x) (flat_map (head 0) x ++ more) (is_argument 4 (length x) (lit< tt) (omega arith))) (rising_again n 0 x more (omega arith) is);
 }
 
 -- What a header says keeps the rules.
@@ -107,7 +106,7 @@ header_takes bytes h rest fits e =
     let t26 = Takes-then s1.0 (spell_bytes s2.0.0) s2.0.1 (head 0 s3.0.0 ++ (spell_numbers s4.0.0 ++ (head 0 s5.0.0 ++ head 0 0))) s6.0 t2.0 t36 in
     let t16 = Takes-then bytes title s1.0 (spell_bytes s2.0.0 ++ (head 0 s3.0.0 ++ (spell_numbers s4.0.0 ++ (head 0 s5.0.0 ++ head 0 0)))) s6.0 t1 t26 in
     subst (λ (f : Header × List ℕ). Takes bytes (spell_header f.0) f.1 × IsHeader f.0) (some_is (found, s6.0) (h, rest) s6.2)
-      (t16, record { document = t2.1; members = t3.1; mine = t4.1; kept = t5.1 })
+    (t16, record { document = t2.1; members = t3.1; mine = t4.1; kept = t5.1 })
 
 pub header_again : (h : Header) (more : List ℕ) → IsHeader h → header_at (spell_header h ++ more) ≡ Some (h, more)
 unfolding header_at
@@ -120,8 +119,14 @@ header_again h more is =
     let after_title : List ℕ = spell_bytes h.document ++ after_document in
     let regrouped : spell_header h ++ more ≡ title ++ after_title = simp append_assoc in
     ap header_at regrouped
-    ∙ rw (GoesPast-title.again after_title, document_reader.again h.document after_document is.document, (number_reader 1 33 (lit≤ tt)).again h.members after_members is.members,
-        (mine_reader h.members (omega arith)).again h.mine after_mine is.mine, (number_reader 0 (2 ^ 32) (lit≤ tt)).again h.kept after_kept is.kept, (GoesPast-head 0 0 (lit< tt) (lit< tt)).again more) refl
+    ∙ rw (
+      GoesPast-title.again after_title,
+      document_reader.again h.document after_document is.document,
+      (number_reader 1 33 (lit≤ tt)).again h.members after_members is.members,
+      (mine_reader h.members (omega arith)).again h.mine after_mine is.mine,
+      (number_reader 0 (2 ^ 32) (lit≤ tt)).again h.kept after_kept is.kept,
+      (GoesPast-head 0 0 (lit< tt) (lit< tt)).again more,
+    ) refl
 
 -- The header's item is spelled so.
 pub header_spelled : (f : File) → cbor.spell (header_item f) ≡ spell_header (record { document = f.document; members = f.members; mine = f.mine; kept = length f.kept })

@@ -1,10 +1,10 @@
 -- Loads one after the other bring a front of the file, and at its end all of it.
-use Rattle.std.proofs.Common.{◌≡◌, ℕ, ◌+◌, ◌<◌, ◌≤◌, ◌-◌, List, [], ◌∷◌, ◌++◌, length, take, drop, Option, None, Some, refl, sym, ap, subst, ◌∙◌, append_assoc, arith, length-append}
+use Rattle.std.proofs.Common.{◌≡◌, ℕ, ◌<◌, ◌≤◌, List, [], ◌++◌, length, take, drop, Option, None, Some, refl, sym, ap, subst, ◌∙◌, append_assoc, arith, length-append}
 use Rattle.std.proofs.lemmas.List.{append-nil, nil_from_length, take-append-drop}
 use Rattle.std.proofs.Math.Seq.{drop-append_seam}
 use Rattle.outside.specs.declared.keeper.Load.{Load}
 use Rattle.outside.specs.declared.keeper.Load.TheVariants as loads
-use Rattle.outside.specs.Keeper.{GotFrom, LoadsAs}
+use Rattle.outside.specs.Keeper.{LoadsAs}
 use Rattle.outline_cmd.specs.Input.{IsFrontOf}
 
 pub front_is_whole : (held : Option (List ℕ)) (front into : List ℕ) (at : ℕ) → at ≡ length front → 0 < length into → IsFrontOf held front → LoadsAs held at into (loads.Got 0) → held ≡ Some front

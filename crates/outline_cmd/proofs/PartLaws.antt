@@ -3,7 +3,6 @@ use Rattle.std.proofs.Common.{◌≡◌, ℕ, zero, suc, ◌+◌, ◌^◌, ◌<�
 use Rattle.std.specs.Prelude.{flat_map, IsUtf8}
 use Rattle.std.specs.Str.{bytes_eq}
 use Rattle.std.specs.Result.{result_ok}
-use Rattle.std.specs.List.{AllByRecursion}
 use Rattle.std.proofs.lemmas.Bool.Decides.{nat_tests}
 use Rattle.std.proofs.lemmas.Option.{cond_some}
 use Rattle.std.proofs.lemmas.Slice.Eq.{bytes_eq-Decides}
@@ -30,9 +29,9 @@ pub record GoesPast (part : List ℕ → Option (List ℕ)) (text : List ℕ) : 
 pub GoesPast-then : (f g : List ℕ → Option (List ℕ)) (a b : List ℕ) → GoesPast f a → GoesPast g b → GoesPast (λ bytes. f bytes >>= g) (a ++ b)
 GoesPast-then f g a b p q = record {
   takes = λ bytes rest fits e.
-    let s = bind_some (f bytes) g rest e in
-    let first = p.takes bytes s.0 fits s.1 in
-    Takes-then bytes a s.0 b rest first (q.takes s.0 rest first.rest_fits s.2);
+      let s = bind_some (f bytes) g rest e in
+      let first = p.takes bytes s.0 fits s.1 in
+      Takes-then bytes a s.0 b rest first (q.takes s.0 rest first.rest_fits s.2);
   again = λ more. rw (append_assoc a b more, p.again (b ++ more)) (q.again more);
 }
 
@@ -57,11 +56,11 @@ pub GoesPast-text : (t : List ℕ) → length t < 2 ^ 64 → IsUtf8 t → GoesPa
 unfolding past_text
 GoesPast-text t short utf8 = record {
   takes = λ bytes rest fits e.
-    let s = bind_some (result_ok (text_at bytes)) (λ n. cond (bytes_eq n.0 t) (Some n.1) None) rest e in
-    let g = cond_some (bytes_eq s.0.0 t) s.0.1 rest s.2 in
-    let found = text_takes bytes s.0.0 s.0.1 fits (given_some (text_at bytes) s.0 s.1) in
-    let same : s.0.0 ≡ t = (bytes_eq-Decides s.0.0 t).0 g.0 in
-    subst (λ (u : List ℕ). Takes bytes (cbor.spell (cbor.text u)) rest) same (subst (λ (r : List ℕ). Takes bytes (cbor.spell (cbor.text s.0.0)) r) g.1 found.0.takes);
+      let s = bind_some (result_ok (text_at bytes)) (λ n. cond (bytes_eq n.0 t) (Some n.1) None) rest e in
+      let g = cond_some (bytes_eq s.0.0 t) s.0.1 rest s.2 in
+      let found = text_takes bytes s.0.0 s.0.1 fits (given_some (text_at bytes) s.0 s.1) in
+      let same : s.0.0 ≡ t = (bytes_eq-Decides s.0.0 t).0 g.0 in
+      subst (λ (u : List ℕ). Takes bytes (cbor.spell (cbor.text u)) rest) same (subst (λ (r : List ℕ). Takes bytes (cbor.spell (cbor.text s.0.0)) r) g.1 found.0.takes);
   again = λ more. rw (text_again t more short utf8, (bytes_eq-Decides t t).1 refl) refl;
 }
 
@@ -87,10 +86,10 @@ pub number_reader : (low limit : ℕ) → limit ≤ 2 ^ 64 → IsReader (number_
 unfolding number_at
 number_reader low limit bound = record {
   takes = λ bytes x rest fits e.
-    let s = bind_some (result_ok (argument_at 0 bytes)) (λ n. cond (leb low n.0 && ltb n.0 limit) (Some n) None) (x, rest) e in
-    let g = cond_some (leb low s.0.0 && ltb s.0.0 limit) s.0 (x, rest) s.2 in
-    let t = argument_takes 0 bytes s.0.0 s.0.1 fits (given_some (argument_at 0 bytes) s.0 s.1) in
-    subst (λ (f : ℕ × List ℕ). Takes bytes (head 0 f.0) f.1 × IsWithin low limit f.0) g.1 (t.takes, IsWithin-true low limit s.0.0 g.0);
+      let s = bind_some (result_ok (argument_at 0 bytes)) (λ n. cond (leb low n.0 && ltb n.0 limit) (Some n) None) (x, rest) e in
+      let g = cond_some (leb low s.0.0 && ltb s.0.0 limit) s.0 (x, rest) s.2 in
+      let t = argument_takes 0 bytes s.0.0 s.0.1 fits (given_some (argument_at 0 bytes) s.0 s.1) in
+      subst (λ (f : ℕ × List ℕ). Takes bytes (head 0 f.0) f.1 × IsWithin low limit f.0) g.1 (t.takes, IsWithin-true low limit s.0.0 g.0);
   again = λ x more is. rw (argument_again 0 x more (is_argument 0 x (lit< tt) (omega (arith, is.most))), within_tests low limit x is.least is.most) refl;
 }
 
@@ -108,18 +107,18 @@ pub rising_takes : (limit low count : ℕ) (bytes xs rest : List ℕ) → limit 
 unfolding rising_at
 rising_takes limit low zero bytes xs rest bound fits e =
     subst (λ (f : List ℕ × List ℕ). TakesRising limit low 0 bytes f.0 f.1) (some_is ([], bytes) (xs, rest) e)
-      (record { takes = record { parts = refl; rest_fits = fits }; count_is = refl; rises = tt })
+    (record { takes = record { parts = refl; rest_fits = fits }; count_is = refl; rises = tt })
 rising_takes limit low (suc count) bytes xs rest bound fits e =
     let s = bind_some (number_at low limit bytes) (λ n. rising_at limit (n.0 + 1) count n.1 >>= λ more. Some (n.0 ∷ more.0, more.1)) (xs, rest) e in
     let u = bind_some (rising_at limit (s.0.0 + 1) count s.0.1) (λ more. Some (s.0.0 ∷ more.0, more.1)) (xs, rest) s.2 in
     let first = (number_reader low limit bound).takes bytes s.0.0 s.0.1 fits s.1 in
     let others = rising_takes limit (s.0.0 + 1) count s.0.1 u.0.0 u.0.1 bound first.0.rest_fits u.1 in
     subst (λ (f : List ℕ × List ℕ). TakesRising limit low (suc count) bytes f.0 f.1) (some_is (s.0.0 ∷ u.0.0, u.0.1) (xs, rest) u.2)
-      (record {
-        takes = Takes-then bytes (head 0 s.0.0) s.0.1 (flat_map (head 0) u.0.0) u.0.1 first.0 others.takes;
-        count_is = ap suc others.count_is;
-        rises = (first.1, others.rises);
-      })
+    (record {
+      takes = Takes-then bytes (head 0 s.0.0) s.0.1 (flat_map (head 0) u.0.0) u.0.1 first.0 others.takes;
+      count_is = ap suc others.count_is;
+      rises = (first.1, others.rises);
+    })
 
 pub rising_again : (limit low : ℕ) (xs more : List ℕ) → limit ≤ 2 ^ 64 → Rises limit low xs → rising_at limit low (length xs) (flat_map (head 0) xs ++ more) ≡ Some (xs, more)
 unfolding rising_at

@@ -1,5 +1,5 @@
 -- Parts that are read one after the other make up what is read.
-use Rattle.std.proofs.Common.{◌≡◌, ◌≢◌, ℕ, ◌+◌, ◌≤◌, ◌^◌, List, [], ◌∷◌, length, Option, Some, None, Result, Ok, Err, refl, sym, ap, subst, ◌∙◌}
+use Rattle.std.proofs.Common.{◌≡◌, ◌≢◌, ℕ, ◌+◌, ◌≤◌, ◌^◌, List, [], ◌∷◌, length, Option, Some, None, Result, Ok, Err, refl, sym, ap, ◌∙◌}
 use Rattle.std.specs.Prelude.{IfOk}
 use Rattle.std.proofs.Math.Dec.{eqb-suc-zero}
 use Rattle.model.specs.Value.{Operation}
@@ -13,8 +13,8 @@ use Rattle.outline_cmd.specs.declared.doc_store.Document.{Document}
 use Rattle.outline_cmd.specs.Document.{Holds}
 use Rattle.outline_cmd.specs.declared.replica.Last.{Last}
 use Rattle.outline_cmd.specs.declared.replica.Sizes.{Sizes}
-use Rattle.outline_cmd.specs.Grammar.{◌>>=◌, past_head, body_at}
-use Rattle.outline_cmd.specs.SmallFile.{Header, number_at, past_title, document_at, mine_at, header_at, rest_of, own_counts, past_own_counts, maker_at, time_at, work_at, puts_at, change_at, last_of, past_base, no_change, changes_at, small_at}
+use Rattle.outline_cmd.specs.Grammar.{past_head, body_at}
+use Rattle.outline_cmd.specs.SmallFile.{Header, number_at, past_title, document_at, mine_at, header_at, rest_of, own_counts, past_own_counts, maker_at, time_at, work_at, puts_at, change_at, past_base, no_change, changes_at, small_at}
 use Rattle.outline_cmd.proofs.ReaderLaws.{some_is}
 use Rattle.outline_cmd.proofs.FileLaws.{small_takes, small_again}
 

@@ -1,6 +1,5 @@
 -- Changes that follow one another from the first on are those that keep the rules of a small file.
-use Rattle.std.proofs.Common.{◌≡◌, ◌≢◌, ℕ, zero, suc, ◌+◌, ◌^◌, ◌<◌, ◌≤◌, Bool, true, false, cond, eqb, inl, inr, List, [], ◌∷◌, ◌++◌, length, map, replicate, get_or, set, Option, Some, None, refl, sym, ap, subst, ◌∙◌, arith, lit<, lit≤}
-use Rattle.std.specs.Prelude.{sum_by, count_by, slice_get}
+use Rattle.std.proofs.Common.{◌≡◌, ◌≢◌, ℕ, ◌+◌, ◌^◌, ◌<◌, ◌≤◌, Bool, true, cond, eqb, inl, inr, List, [], ◌∷◌, ◌++◌, length, map, replicate, get_or, Option, Some, refl, sym, ap, subst, ◌∙◌, arith}
 use Rattle.std.specs.List.{AllByRecursion}
 use Rattle.std.specs.List.Sorted.{IsStrictlySortedBy}
 use Rattle.std.specs.declared.cmp.Ordering.{Ordering}
@@ -19,9 +18,8 @@ use Rattle.model.specs.File.{WritesRoot, IsOf}
 use Rattle.outline_cmd.specs.declared.replica.Last.{Last}
 use Rattle.outline_cmd.specs.SmallFile.{own_counts, may_follow, last_of, no_change}
 use Rattle.outline_cmd.proofs.GrammarLaws.{width_is}
-use Rattle.outline_cmd.proofs.PartLaws.{IsWithin}
 use Rattle.outline_cmd.proofs.BaseLaws.{length-own_counts, own_counts_below}
-use Rattle.outline_cmd.proofs.ChangeLaws.{IsMaker, ArePuts, IsNext}
+use Rattle.outline_cmd.proofs.ChangeLaws.{IsNext}
 use Rattle.outline_cmd.proofs.ChainLaws.{GoOn}
 
 -- ---- the counts of a member who knows its own changes alone
@@ -50,16 +48,16 @@ stamp_earlier a b same less =
     elim (cases_lt a.time b.time) [
       | inl lt ↦ lt
       | inr le ↦
-        elim (cases_lt b.time a.time) [
-          | inl gt ↦
-            let bad : ordering_then Greater (nat_cmp a.member b.member) ≡ Less = subst (λ (o : Ordering). ordering_then o (nat_cmp a.member b.member) ≡ Less) (sym (nat_cmp_is a.time b.time Greater gt)) less in
-            absurd cc
-          | inr ge ↦
-            let times : Equal ≡ nat_cmp a.time b.time = nat_cmp_is a.time b.time Equal (omega arith) in
-            let at_once : ordering_then Equal (nat_cmp a.member b.member) ≡ Less = subst (λ (o : Ordering). ordering_then o (nat_cmp a.member b.member) ≡ Less) (sym times) less in
-            let bad : ordering_then Equal Equal ≡ Less = subst (λ (o : Ordering). ordering_then Equal o ≡ Less) (sym (nat_cmp_is a.member b.member Equal same)) at_once in
-            absurd cc
-        ]
+          elim (cases_lt b.time a.time) [
+            | inl gt ↦
+                let bad : ordering_then Greater (nat_cmp a.member b.member) ≡ Less = subst (λ (o : Ordering). ordering_then o (nat_cmp a.member b.member) ≡ Less) (sym (nat_cmp_is a.time b.time Greater gt)) less in
+                absurd cc
+            | inr ge ↦
+                let times : Equal ≡ nat_cmp a.time b.time = nat_cmp_is a.time b.time Equal (omega arith) in
+                let at_once : ordering_then Equal (nat_cmp a.member b.member) ≡ Less = subst (λ (o : Ordering). ordering_then o (nat_cmp a.member b.member) ≡ Less) (sym times) less in
+                let bad : ordering_then Equal Equal ≡ Less = subst (λ (o : Ordering). ordering_then Equal o ≡ Less) (sym (nat_cmp_is a.member b.member Equal same)) at_once in
+                absurd cc
+          ]
     ]
 
 -- ---- changes that follow one another keep the rules
@@ -88,9 +86,10 @@ count_more before c member same =
 numbered_after : (n : ℕ) (last : Last) (before cs : List Change) → Counts before last → GoOn n last cs → EachAfter (λ past c. c.number ≡ count_of past c.member + 1) before cs
 numbered_after n last before [] counts go_on = tt
 numbered_after n last before (c ∷ cs) counts (is, go_on) =
-    let known : count_of before c.member ≡ last.number = counts c.member is.maker.follows in
-    (omega (arith, is.number),
-      numbered_after n (last_of c) (before ++ c ∷ []) cs (λ member follows. let same : member ≡ c.member = eqb-true member c.member follows in count_more before c member (sym same) ∙ omega (arith, is.number, ap (count_of before) same)) go_on)
+    let known : count_of before c.member ≡ last.number = counts c.member is.maker.follows in (
+      omega (arith, is.number),
+      numbered_after n (last_of c) (before ++ c ∷ []) cs (λ member follows. let same : member ≡ c.member = eqb-true member c.member follows in count_more before c member (sym same) ∙ omega (arith, is.number, ap (count_of before) same)) go_on,
+    )
 
 pub GoOn-numbered : (n : ℕ) (cs : List Change) → GoOn n no_change cs → AreNumbered cs
 GoOn-numbered n cs go_on = numbered_after n no_change [] cs (λ member follows. refl) go_on
@@ -100,20 +99,22 @@ GoOn-changes n last [] bound go_on = tt
 GoOn-changes n last (c ∷ cs) bound (is, go_on) =
     let number : c.number ≡ last.number + 1 = is.number in
     let own : get_or c.causes c.member 0 ≡ last.number = rw is.causes (own_at n c.member last.number is.maker.below) in
-    let len : length c.causes ≡ n = rw is.causes (length-own_counts n c.member last.number) in
-    (record {
-      member = is.maker.below;
-      number_some = omega arith;
-      number_most = omega arith;
-      time_some = omega (arith, is.time.least);
-      time_most = is.time.most;
-      causes_each = len;
-      causes_most = rw is.causes (own_counts_below n c.member last.number (2 ^ 32) (omega arith));
-      causes_own = (last.number, slice_get-get_or c.causes c.member 0 (omega (arith, is.maker.below)) ∙ ap (λ (k : ℕ). Some k) own, sym number);
-      body_most = is.puts.short;
-      operations = is.puts.are;
-      width_most = rw (width_is c.operations) is.puts.few;
-    }, GoOn-changes n (last_of c) cs (omega arith) go_on)
+    let len : length c.causes ≡ n = rw is.causes (length-own_counts n c.member last.number) in (
+      record {
+        member = is.maker.below;
+        number_some = omega arith;
+        number_most = omega arith;
+        time_some = omega (arith, is.time.least);
+        time_most = is.time.most;
+        causes_each = len;
+        causes_most = rw is.causes (own_counts_below n c.member last.number (2 ^ 32) (omega arith));
+        causes_own = (last.number, slice_get-get_or c.causes c.member 0 (omega (arith, is.maker.below)) ∙ ap (λ (k : ℕ). Some k) own, sym number);
+        body_most = is.puts.short;
+        operations = is.puts.are;
+        width_most = rw (width_is c.operations) is.puts.few;
+      },
+      GoOn-changes n (last_of c) cs (omega arith) go_on,
+    )
 
 -- Changes that follow one of this member are all of this member, who knows of no others.
 maker_stays : (n maker : ℕ) (last : Last) (cs : List Change) → last.member ≡ Some maker → GoOn n last cs → AllByRecursion (IsOf maker) cs
@@ -144,13 +145,13 @@ causes_are n maker last c is of number =
     let len : length c.causes ≡ length (own_counts n c.member last.number) = is.causes_each ∙ sym (length-own_counts n c.member last.number) in
     let own_is : own.0 ≡ last.number = omega (arith, own.2, number) in
     same_number_lists c.causes (own_counts n c.member last.number) len
-      (λ k lt. elim (cases_eq k c.member) [
-        | inl e ↦
+    (λ k lt. elim (cases_eq k c.member) [
+      | inl e ↦
           let left : get_or c.causes k 0 ≡ last.number = rw e (get_or_from_slice_get c.causes c.member own.0 0 own.1 ∙ own_is) in
           let right : get_or (own_counts n c.member last.number) k 0 ≡ last.number = rw e (own_at n c.member last.number is.member) in
           left ∙ sym right
-        | inr other ↦ of.others k (λ e. other (e ∙ sym of.maker)) ∙ sym (other_past n c.member last.number k other)
-      ])
+      | inr other ↦ of.others k (λ e. other (e ∙ sym of.maker)) ∙ sym (other_past n c.member last.number k other)
+    ])
 
 earlier_times : (maker : ℕ) (c : Change) (cs : List Change) → IsOf maker c → AllByRecursion (IsOf maker) cs → AllByRecursion (λ s. stamp_cmp (change_stamp c) s ≡ Less) (map change_stamp cs) → AllByRecursion (λ d. c.time < d.time) cs
 earlier_times maker c [] of others less = tt
@@ -172,9 +173,10 @@ unfolding IsStrictlySortedBy
 rules_go_on n maker last before [] follows count later are of on_root order numbered = tt
 rules_go_on n maker last before (c ∷ cs) follows count later are of on_root order numbered =
     let same : c.member ≡ maker = of.0.maker in
-    let number : c.number ≡ last.number + 1 = omega (arith, numbered.0, ap (count_of before) same) in
-    (next_is n maker last c follows are.0 of.0 on_root.0 later.0 number,
-      rules_go_on n maker (last_of c) (before ++ c ∷ []) cs (eq-eqb maker c.member (sym same)) (count_more before c maker same ∙ omega arith) (earlier_times maker c cs of.0 of.1 order.0) are.1 of.1 on_root.1 order.1 numbered.1)
+    let number : c.number ≡ last.number + 1 = omega (arith, numbered.0, ap (count_of before) same) in (
+      next_is n maker last c follows are.0 of.0 on_root.0 later.0 number,
+      rules_go_on n maker (last_of c) (before ++ c ∷ []) cs (eq-eqb maker c.member (sym same)) (count_more before c maker same ∙ omega arith) (earlier_times maker c cs of.0 of.1 order.0) are.1 of.1 on_root.1 order.1 numbered.1,
+    )
 
 times_some : (n : ℕ) (cs : List Change) → AllByRecursion (IsChange n) cs → AllByRecursion (λ c. 0 < c.time) cs
 times_some n [] are = tt

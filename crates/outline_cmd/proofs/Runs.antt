@@ -1,14 +1,14 @@
 -- What is meant by `show`, told by what stands under its name.
-use Rattle.std.proofs.Common.{◌≡◌, ◌≢◌, ℕ, ◌<◌, ◌≤◌, List, [], ◌∷◌, length, Option, None, Some, Result, Ok, Err, take, drop, ◌++◌, ◌+◌, ◌⊎◌, inl, inr, append_assoc, Bool, true, false, cond, refl, sym, ap, subst, ◌∙◌, arith}
-use Rattle.std.specs.Prelude.{slice_get, bytes_eq, codes}
+use Rattle.std.proofs.Common.{◌≡◌, ℕ, ◌<◌, ◌≤◌, List, [], ◌∷◌, length, Option, None, Some, Result, Ok, Err, take, drop, ◌++◌, ◌+◌, ◌⊎◌, inl, inr, append_assoc, true, false, cond, refl, sym, ap, subst, ◌∙◌, arith}
+use Rattle.std.specs.Prelude.{bytes_eq, codes}
 use Rattle.std.proofs.Math.Seq.{take-add}
 use Rattle.std.proofs.lemmas.List.{drop-drop}
 use Rattle.outside.specs.Files.{Files, file_at}
 use Rattle.model.specs.File.{File, SpellsSmall, file_limit}
 use Rattle.outline_cmd.specs.declared.status.Status.{Status}
 use Rattle.outline_cmd.specs.declared.status.Status.TheVariants as s
-use Rattle.outline_cmd.specs.Words.{Order, show, is_name, is_command, wrong_word, show_order, command_order, order_of}
-use Rattle.outline_cmd.specs.Meaning.{Meaning, Continues, known, SpellsNone, found, spelled, input, shown_text, show_meaning, order_meaning, meaning}
+use Rattle.outline_cmd.specs.Words.{Order, show, is_name, is_command, wrong_word, show_order, order_of}
+use Rattle.outline_cmd.specs.Meaning.{Continues, known, SpellsNone, found, spelled, input, shown_text, show_meaning, order_meaning, meaning}
 use Rattle.std.specs.Global.{Vec}
 use Rattle.outside.specs.Sink.{appended}
 use Rattle.outline_cmd.specs.Run.{place, IsOfInput, Brings, Refuses, MayFaultAt, PrintsNothing, Answers, Prints}

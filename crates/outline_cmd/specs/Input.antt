@@ -1,5 +1,5 @@
 -- A file that is loaded in pieces.
-use Rattle.std.specs.Prelude.{◌≡◌, ℕ, ◌<◌, ◌≤◌, List, [], ◌++◌, length, Option, None, Some, Result, Ok, Err}
+use Rattle.std.specs.Prelude.{◌≡◌, ℕ, ◌<◌, List, [], ◌++◌, Option, None, Some, Result, Ok, Err}
 use Rattle.outside.specs.declared.keeper.KeeperFault.{KeeperFault}
 use Rattle.outline_cmd.specs.declared.input.Piece.{Piece}
 use Rattle.outline_cmd.specs.declared.input.Piece.TheVariants as p

@@ -1,5 +1,5 @@
 -- What a command means, over files: the text that it prints, or its refusal.
-use Rattle.std.specs.Prelude.{◌≡◌, ℕ, List, Option, Some, None, Result, Ok, Err, ◌≤◌}
+use Rattle.std.specs.Prelude.{◌≡◌, ℕ, List, Option, Some, None, Result, Ok, Err}
 use Rattle.outside.specs.Files.{Files, file_at}
 use Rattle.model.specs.File.{File, SpellsSmall}
 use Rattle.model.specs.State.{replay}

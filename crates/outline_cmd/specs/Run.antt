@@ -8,7 +8,7 @@ use Rattle.outside.specs.Sink.{appended}
 use Rattle.model.specs.File.{File, SpellsSmall, IsSmall, file_limit}
 use Rattle.outline_cmd.specs.declared.status.Status.{Status}
 use Rattle.outline_cmd.specs.declared.status.Status.TheVariants as s
-use Rattle.outline_cmd.specs.Words.{Order, show, order_of}
+use Rattle.outline_cmd.specs.Words.{Order, order_of}
 use Rattle.outline_cmd.specs.Meaning.{Meaning, shown_text}
 
 -- the place of a refusal in their order: those of the words, and then those of the file that a word names

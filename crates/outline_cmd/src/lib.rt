@@ -17,5 +17,5 @@ mod version_vector;
 mod words;
 
 pub use program::run;
-pub use status::{number_of, status_line, Status};
+pub use status::{Status, number_of, status_line};
 pub use words::Words;

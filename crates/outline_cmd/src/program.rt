@@ -15,7 +15,7 @@ use crate::input::load_file;
 use crate::outline_show::show_text;
 use crate::replica::read_document;
 use crate::status::Status;
-use crate::words::{read_words, Command, Words};
+use crate::words::{Command, Words, read_words};
 use outside::{Keeper, Sink, Tally};
 use std::alloc::Global;
 

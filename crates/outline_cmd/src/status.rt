@@ -4,7 +4,6 @@ ghost use Rattle.outline_cmd.specs.Status.{number, line};
 use cbor_det::OwnText;
 use std::alloc::{AllocError, Global};
 
-
 /// How a run ended.
 #[derive(Clone, Copy, Debug, PartialEq, Eq)]
 pub enum Status {

@@ -2,7 +2,7 @@
 use Rattle.std.specs.Prelude.{ℕ, List, Contains}
 use Rattle.outside.specs.Faults.{raised}
 
--- The calls are numbered from 0. A number or a count that reaches the end of 64 bits stands still.
+-- The calls are numbered from 0, and a number at the end of 64 bits stands still.
 pub record Plan : Type 0 where
   -- the numbers of the calls that are to fail
   pub failing : List ℕ

@@ -10,7 +10,7 @@ use std::io::{ErrorKind, Read, Seek, SeekFrom, Write};
 use std::marker::Model;
 use std::rt::Files;
 
-/// At most so many bytes come of one load.
+// At most so many bytes come of one load.
 const PIECE: usize = 65536;
 
 /// The files of a runtime, by their paths from the current folder. It tells nothing of them, and counts its faults.
@@ -74,7 +74,8 @@ impl<R: Files + Alloc> Keeper for HostKeeper<'_, R> {
         loaded
     }
 
-    /// Writes the file `NAME~` and renames it, so that the file `name` never holds a part of the bytes.
+    /// Writes the file `NAME~`, over what it held, and renames it, so that the file `name` never holds a part of the bytes.
+    /// It does not wait until they are on the disk.
     fn store(&mut self, name: &str, bytes: &[u8]) -> Result<(), KeeperFault>
         ensures faults { self.new ≡ record self.old { stores = counted self.old.stores result } }
     {

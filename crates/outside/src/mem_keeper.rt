@@ -1,7 +1,7 @@
 // A keeper in memory.
-ghost use Rattle.std.specs.Prelude.{◌≡◌, ◌-◌, ◌≤◌, ◌↔◌, min, length, drop, Some, IfOk, OnOk, OnErr, IsErr, IsErrOf, List, ℕ};
+ghost use Rattle.std.specs.Prelude.{◌≡◌, ◌-◌, ◌↔◌, min, length, drop, Some, Err, IfOk, OnOk, OnErr, IsErr, IsErrOf};
 ghost use Rattle.std.specs.Option.{option_copied};
-ghost use Rattle.outside.specs.declared.keeper.KeeperFault.TheVariants.{Failed, NoMemory};
+ghost use Rattle.outside.specs.declared.keeper.KeeperFault.TheVariants.{Failed};
 ghost use Rattle.outside.specs.Files.{file_at, stored};
 ghost use Rattle.outside.specs.Keeper.{GotFrom, LoadsAs, FillsFront};
 ghost use Rattle.outside.specs.Memory.{new_memory, load_of, after_load, after_store};
@@ -15,8 +15,8 @@ use std::marker::Model;
 
 /// A keeper that holds its files in memory, and fails where it is told to.
 ///
-/// Its loads and its stores are numbered apart, each from 0, and each call has a number. A call that is to fail raises the
-/// count of faults of its kind, and nothing else raises one.
+/// Its loads and its stores are numbered apart, each from 0, and each call takes the next number. A call that is to fail
+/// raises the count of faults of its kind, and nothing else raises one.
 #[derive(Drop)]
 pub struct MemKeeper {
     alloc: Global,
@@ -119,6 +119,7 @@ impl Keeper for MemKeeper {
         }
     }
 
+    /// Takes memory for the name and the bytes, and puts them in the place of an older file.
     fn store(&mut self, name: &str, bytes: &[u8]) -> Result<(), KeeperFault>
         ensures fails { IsErrOf result Failed ↔ FailsNext self.old.stores }
         ensures after { self.new ≡ after_store self.old name.now bytes.now result }

@@ -1,9 +1,7 @@
 // A sink in memory.
-ghost use Rattle.std.specs.Prelude.{◌≡◌, ◌-◌, ◌<◌, ◌≤◌, ◌↔◌, min, length, [], Some, IfOk, IsErr};
-ghost use Rattle.outside.specs.Faults.{HasCause};
+ghost use Rattle.std.specs.Prelude.{◌≡◌, ◌-◌, ◌↔◌, min, length, [], Some, IfOk, IsErr};
 ghost use Rattle.outside.specs.Plan.{new_plan};
 ghost use Rattle.outside.specs.Printed.{RefusesNext, after_put};
-ghost use Rattle.outside.specs.Sink.{written_after};
 
 use crate::plan::FaultPlan;
 use crate::sink::{Sink, SinkFailed};

@@ -107,9 +107,12 @@ fn loads_in_pieces_and_fails(rt: HostRuntime) -> Result<(), Fail> {
         assert!(rt; printed, "the text after {answer:?}");
     }
     let long = vec![in alloc; 0u8; 130_000]?;
-    for (fail_loads, status) in [([2], fault), ([3], Status::NotBuilt { word: 1 })] {
+    for (fail_loads, status) in [
+        ([2].as_slice(), fault),
+        ([3].as_slice(), Status::NotBuilt { word: 1 }),
+    ] {
         let out = MemSink::new(alloc, ROOM, &[])?;
-        let (answer, _) = prints(alloc, &["show", "a"], &long, &fail_loads, out, b"")?;
+        let (answer, _) = prints(alloc, &["show", "a"], &long, fail_loads, out, b"")?;
         assert_eq!(rt; answer, status);
     }
     Ok(())

@@ -1,4 +1,4 @@
-use Rattle.std.proofs.Common.{◌≡◌, ◌≤◌, ◌<◌, length, refl, arith, rules}
+use Rattle.std.proofs.Common.{◌<◌, length, refl, arith}
 use Rattle.outside.specs.Files.{file_at}
 use Rattle.model.specs.File.{file_limit}
 use Rattle.outline_cmd.proofs.Loads.{no_front, front_too_long}
@@ -9,7 +9,7 @@ loop-keeper-init g c = record {
   room = omega arith;
   told = λ files told. no_front (file_at files c.args.name.now) c.new-bytes.result.items c.new-bytes.ensures.items;
   loads = record { same_files = refl; same_stores = refl; later = omega arith };
-  failed = refl
+  failed = refl;
 }
 
 pub returns-clause-told : goal.returns-clause-told

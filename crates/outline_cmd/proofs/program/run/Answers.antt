@@ -1,4 +1,4 @@
-use Rattle.std.proofs.Common.{◌≡◌, ◌∙◌, ap, subst, sym}
+use Rattle.std.proofs.Common.{◌≡◌, ◌∙◌, ap}
 use Rattle.std.specs.Prelude.{string_bytes}
 use Rattle.outside.specs.Sink.{appended}
 use Rattle.outline_cmd.specs.Meaning.{meaning}
@@ -28,5 +28,5 @@ returns-clause-shows g c = λ files name told order done.
       held = shown.held;
       spells = shown.spells;
       only = λ other spells. one_small_file shown.bytes other shown.file spells shown.spells;
-      printed = c.print.ensures.done done ∙ ap (appended (g.S.Sink.written c.args.out.now)) (text ∙ shown.is)
+      printed = c.print.ensures.done done ∙ ap (appended (g.S.Sink.written c.args.out.now)) (text ∙ shown.is);
     }

@@ -1,8 +1,6 @@
-use Rattle.std.proofs.Common.{◌≡◌, List, ℕ, refl, sym, subst, ap, Ok, Err, ◌∙◌}
+use Rattle.std.proofs.Common.{◌≡◌, refl, ap, Err}
 use Rattle.std.proofs.lemmas.Result.{err_from_is_err_and}
-use Rattle.outside.specs.Files.{file_at}
-use Rattle.outline_cmd.specs.Meaning.{show_meaning}
-use Rattle.outline_cmd.proofs.Runs.{shown_is_meant, none_is_meant, load_refuses, text_is_meant, nothing_is_meant}
+use Rattle.outline_cmd.proofs.Runs.{load_refuses, text_is_meant, nothing_is_meant}
 use Rattle.outline_cmd.proofs.program.show.Goals as goal
 
 pub returns-in_err-bytes-clause-told : goal.returns-in_err-bytes-clause-told

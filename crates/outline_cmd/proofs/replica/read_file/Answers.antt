@@ -1,4 +1,4 @@
-use Rattle.std.proofs.Common.{◌≡◌, List, [], ap}
+use Rattle.std.proofs.Common.{◌≡◌, [], ap}
 use Rattle.std.proofs.lemmas.Result.{err_from_is_err_and}
 use Rattle.cbor_det.specs.Unread.{Unread}
 use Rattle.outline_cmd.proofs.ReadLaws.{no_header, no_base, no_changes, no_end, file_read}
@@ -17,15 +17,15 @@ pub returns-in_err-read_kept-clause-refused : goal.returns-in_err-read_kept-clau
 returns-in_err-read_kept-clause-refused c = λ e.
     let p = err_from_is_err_and c.from_residual-in_err-read_kept.result c.from_residual-in_err-read_kept.ensures.1 in
     no_changes c.args.bytes.now c.new-cursor.result.rest.now c.read_header.new.cursor.rest.now c.pass_base.new.cursor.rest.now c.in_ok-sizes.sizes (ap (λ (u : Unread). u.rest) c.new-cursor.ensures) c.in_ok-sizes.ensures.found c.in_ok-pass_base.ensures
-      (c.in_err-read_kept.ensures.refused (cc (p.1, p.2, e)))
+    (c.in_err-read_kept.ensures.refused (cc (p.1, p.2, e)))
 
 pub returns-clause-refused : goal.returns-clause-refused
 returns-clause-refused c = λ _.
     no_end c.args.bytes.now c.new-cursor.result.rest.now c.read_header.new.cursor.rest.now c.pass_base.new.cursor.rest.now c.read_kept.new.cursor.rest.now c.in_ok-sizes.sizes c.new-document.result c.read_kept.new.document
-      (ap (λ (u : Unread). u.rest) c.new-cursor.ensures) c.in_ok-sizes.ensures.found c.in_ok-pass_base.ensures c.in_ok-read_kept.ensures.found (λ nothing. cc (c.is_end.ensures.1 nothing, c.if-is_end.false))
+    (ap (λ (u : Unread). u.rest) c.new-cursor.ensures) c.in_ok-sizes.ensures.found c.in_ok-pass_base.ensures c.in_ok-read_kept.ensures.found (λ nothing. cc (c.is_end.ensures.1 nothing, c.if-is_end.false))
 
 pub returns-then-is_end-clause-found : goal.returns-then-is_end-clause-found
 returns-then-is_end-clause-found c =
     let nothing : c.read_kept.new.cursor.rest.now ≡ [] = c.is_end.ensures.0 c.if-is_end.true in
     file_read c.args.bytes.now c.new-cursor.result.rest.now c.read_header.new.cursor.rest.now c.pass_base.new.cursor.rest.now c.read_kept.new.cursor.rest.now c.in_ok-sizes.sizes c.new-document.result c.read_kept.new.document
-      (ap (λ (u : Unread). u.rest) c.new-cursor.ensures) c.in_ok-sizes.ensures.found c.in_ok-pass_base.ensures c.in_ok-read_kept.ensures.found nothing c.new-document.ensures
+    (ap (λ (u : Unread). u.rest) c.new-cursor.ensures) c.in_ok-sizes.ensures.found c.in_ok-pass_base.ensures c.in_ok-read_kept.ensures.found nothing c.new-document.ensures
