@@ -34,7 +34,7 @@ changes_take n last (suc count) bytes cs rest some few bound fits e =
     let first = change_takes n last bytes s1.0.0 s1.0.1 some few (omega arith) fits s1.1 in
     let number : s1.0.0.number ≡ last.number + 1 = first.1.number in
     let others = changes_take n (last_of s1.0.0) count s1.0.1 s2.0.0 s2.0.1 some few (omega arith) first.0.rest_fits s2.1 in
-    subst (λ (f : List Change × List ℕ). TakesChanges n last (suc count) bytes f.0 f.1) (some_is (s1.0.0 ∷ s2.0.0, s2.0.1) (cs, rest) s2.2)
+    subst (λ (f : List Change × List ℕ). TakesChanges n last (suc count) bytes f.0 f.1) {x = (s1.0.0 ∷ s2.0.0, s2.0.1)} (some_is (s1.0.0 ∷ s2.0.0, s2.0.1) (cs, rest) s2.2)
     (record {
       takes = Takes-then bytes (cbor.spell (change_item s1.0.0)) s1.0.1 (spell_changes s2.0.0) s2.0.1 first.0 others.takes;
       count_is = ap suc others.count_is;

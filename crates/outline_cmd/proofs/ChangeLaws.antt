@@ -188,7 +188,7 @@ change_takes n last bytes c rest some few bound fits e =
     let t24 = Takes-then s1.0.1 (spell_time found.number found.time) s2.0.1 (spell_numbers found.causes ++ spell_puts found.operations) s4.0.1 t2.0 t34 in
     let t14 = Takes-then bytes (spell_maker found.member) s1.0.1 (spell_time found.number found.time ++ (spell_numbers found.causes ++ spell_puts found.operations)) s4.0.1 t1.0 t24 in
     let is : IsNext n last found = record { maker = t1.1; number = refl; time = t2.1; causes = refl; puts = t4.1 } in
-    subst (λ (f : Change × List ℕ). Takes bytes (cbor.spell (change_item f.0)) f.1 × IsNext n last f.0) (some_is (found, s4.0.1) (c, rest) s4.2)
+    subst (λ (f : Change × List ℕ). Takes bytes (cbor.spell (change_item f.0)) f.1 × IsNext n last f.0) {x = (found, s4.0.1)} (some_is (found, s4.0.1) (c, rest) s4.2)
     (subst (λ (t : List ℕ). Takes bytes t s4.0.1) (sym (change_spelled found)) t14, is)
 
 -- with the number and the causes as they must be

@@ -91,6 +91,10 @@ small_from_parts bytes h cs short parts is count go_on =
       whole = whole;
     }
 
+-- nothing is left
+at_end : (bytes text rest : List ℕ) → bytes ≡ text ++ rest → length rest ≡ 0 → bytes ≡ text
+at_end bytes text rest parts none = parts ∙ ap (λ (r : List ℕ). text ++ r) (nil_from_length rest none) ∙ append-nil text
+
 -- What is read as a small file is the spelling of one.
 pub small_takes : (bytes : List ℕ) (f : File) → IsBytes bytes → length bytes ≤ file_limit → small_at bytes ≡ Some f → SpellsSmall bytes f
 unfolding small_at
@@ -107,9 +111,7 @@ small_takes bytes f fits short e =
     let t2 = (GoesPast-base h.members (omega arith)).takes s1.0.1 s2.0 t1.0.rest_fits s2.1 in
     let t3 = changes_take h.members no_change h.kept s2.0 s3.0.0 s3.0.1 is.members.least (omega arith) (omega arith) t2.rest_fits s3.1 in
     let whole = Takes-then bytes (spell_header h) s1.0.1 (cbor.spell (empty_base_item h.members) ++ spell_changes s3.0.0) s3.0.1 t1.0 (Takes-then s1.0.1 (cbor.spell (empty_base_item h.members)) s2.0 (spell_changes s3.0.0) s3.0.1 t2 t3.takes) in
-    let nothing : s3.0.1 ≡ [] = nil_from_length s3.0.1 (eqb-true (length s3.0.1) 0 g.0) in
-    let spelled : List ℕ = spell_header h ++ (cbor.spell (empty_base_item h.members) ++ spell_changes s3.0.0) in
-    let parts : bytes ≡ spelled = whole.parts ∙ ap (λ (r : List ℕ). spelled ++ r) nothing ∙ append-nil spelled in
+    let parts = at_end bytes (spell_header h ++ (cbor.spell (empty_base_item h.members) ++ spell_changes s3.0.0)) s3.0.1 whole.parts (eqb-true (length s3.0.1) 0 g.0) in
     subst (SpellsSmall bytes) g.1 (small_from_parts bytes h s3.0.0 short parts is t3.count_is t3.go_on)
 
 header_is : (f : File) → IsFile f → IsHeader (record { document = f.document; members = f.members; mine = f.mine; kept = length f.kept })

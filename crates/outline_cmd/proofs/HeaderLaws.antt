@@ -105,7 +105,7 @@ header_takes bytes h rest fits e =
     let t36 = Takes-then s2.0.1 (head 0 s3.0.0) s3.0.1 (spell_numbers s4.0.0 ++ (head 0 s5.0.0 ++ head 0 0)) s6.0 t3.0 t46 in
     let t26 = Takes-then s1.0 (spell_bytes s2.0.0) s2.0.1 (head 0 s3.0.0 ++ (spell_numbers s4.0.0 ++ (head 0 s5.0.0 ++ head 0 0))) s6.0 t2.0 t36 in
     let t16 = Takes-then bytes title s1.0 (spell_bytes s2.0.0 ++ (head 0 s3.0.0 ++ (spell_numbers s4.0.0 ++ (head 0 s5.0.0 ++ head 0 0)))) s6.0 t1 t26 in
-    subst (λ (f : Header × List ℕ). Takes bytes (spell_header f.0) f.1 × IsHeader f.0) (some_is (found, s6.0) (h, rest) s6.2)
+    subst (λ (f : Header × List ℕ). Takes bytes (spell_header f.0) f.1 × IsHeader f.0) {x = (found, s6.0)} (some_is (found, s6.0) (h, rest) s6.2)
     (t16, record { document = t2.1; members = t3.1; mine = t4.1; kept = t5.1 })
 
 pub header_again : (h : Header) (more : List ℕ) → IsHeader h → header_at (spell_header h ++ more) ≡ Some (h, more)

@@ -9,7 +9,7 @@ use Rattle.outline_cmd.specs.declared.doc_store.Document.{Document}
 use Rattle.outline_cmd.specs.declared.replica.Last.{Last}
 use Rattle.outline_cmd.specs.Document.{Holds}
 use Rattle.outline_cmd.specs.Grammar.{◌>>=◌}
-use Rattle.outline_cmd.specs.SmallFile.{change_at, changes_at, last_of, no_change}
+use Rattle.outline_cmd.specs.SmallFile.{HoldsAfter, change_at, changes_at, last_of, no_change}
 use Rattle.outline_cmd.proofs.ReaderLaws.{with_front}
 
 unchanged : (o : Option (List Change × List ℕ)) → with_front [] o ≡ o
@@ -20,10 +20,6 @@ regroup : (front : List Change) (c : Change) (o : Option (List Change × List �
 regroup front c (Some x) = ap (λ (cs : List Change). Some (cs, x.1)) (simp append_assoc)
 regroup front c None = refl
 
--- What the document holds after the changes.
-abbrev Does : Document → Document → List Change → Type 0
-Does old new cs = (s : State) → Holds old s → Holds new (after s (atoms cs))
-
 after-push : (s : State) (cs : List Change) (c : Change) → after s (atoms (cs ++ c ∷ [])) ≡ after (after s (atoms cs)) (change_atoms c)
 after-push s cs c =
     ap (after s) (flat_map-append change_atoms cs (c ∷ []) ∙ ap (λ (list : List Atom). atoms cs ++ list) (append-nil (change_atoms c))) ∙ fold-append step s (atoms cs) (change_atoms c)
@@ -32,7 +28,7 @@ after-push s cs c =
 pub record IsUnderWay (n count i : ℕ) (all rest : List ℕ) (old new : Document) (last : Last) : Type 0 where
   pub done : List Change
   pub reads : with_front done (changes_at n last (count - i) rest) ≡ changes_at n no_change count all
-  pub does : (s : State) → Holds old s → Holds new (after s (atoms done))
+  pub does : HoldsAfter old new (atoms done)
   pub number : last.number ≡ i
   pub time : last.time < 2 ^ 48
 
@@ -42,7 +38,7 @@ starts n count all d =
     record { done = []; reads = rw whole (unchanged (changes_at n no_change count all)); does = λ s held. held; number = refl; time = omega arith }
 
 pub goes_on : (n count i : ℕ) (all from rest : List ℕ) (old mid new : Document) (last next : Last) (c : Change) → i < count → change_at n last from ≡ Some (c, rest) → next ≡ last_of c
-    → ((s : State) → Holds mid s → Holds new (after s (change_atoms c))) → next.number ≡ last.number + 1 → next.time < 2 ^ 48
+    → HoldsAfter mid new (change_atoms c) → next.number ≡ last.number + 1 → next.time < 2 ^ 48
     → IsUnderWay n count i all from old mid last → IsUnderWay n count (i + 1) all rest old new next
 unfolding changes_at
 goes_on n count i all from rest old mid new last next c lt e same does number time so_far =
@@ -64,7 +60,7 @@ stops n count i all from old new last lt e so_far =
     sym so_far.reads ∙ none
 
 pub is_done : (n count i : ℕ) (all from : List ℕ) (old new : Document) (last : Last) → count ≤ i → IsUnderWay n count i all from old new last
-    → (cs : List Change) × (changes_at n no_change count all ≡ Some (cs, from)) × ((s : State) → Holds old s → Holds new (after s (atoms cs)))
+    → (cs : List Change) × (changes_at n no_change count all ≡ Some (cs, from)) × HoldsAfter old new (atoms cs)
 unfolding changes_at
 is_done n count i all from old new last le so_far =
     let left : count - i ≡ 0 = omega arith in

@@ -16,3 +16,4 @@ pub mod ManyLaws
 pub mod RisingLoop
 pub mod KeptLoop
 pub mod ReadLaws
+pub mod MeaningLaws

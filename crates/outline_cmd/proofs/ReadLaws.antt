@@ -4,7 +4,7 @@ use Rattle.std.specs.Prelude.{IfOk}
 use Rattle.std.proofs.Math.Dec.{eqb-suc-zero}
 use Rattle.model.specs.Value.{Operation}
 use Rattle.model.specs.Change.{Change}
-use Rattle.model.specs.State.{State, empty_state, after, atoms, replay}
+use Rattle.model.specs.State.{empty_state, atoms, replay}
 use Rattle.model.specs.File.{File, file_limit, SpellsSmall}
 use Rattle.cbor_det.specs.Head.{IsBytes}
 use Rattle.outline_cmd.specs.declared.fault.FileFault.{FileFault}
@@ -14,7 +14,7 @@ use Rattle.outline_cmd.specs.Document.{Holds}
 use Rattle.outline_cmd.specs.declared.replica.Last.{Last}
 use Rattle.outline_cmd.specs.declared.replica.Sizes.{Sizes}
 use Rattle.outline_cmd.specs.Grammar.{past_head, body_at}
-use Rattle.outline_cmd.specs.SmallFile.{Header, number_at, past_title, document_at, mine_at, header_at, rest_of, own_counts, past_own_counts, maker_at, time_at, work_at, puts_at, change_at, past_base, no_change, changes_at, small_at}
+use Rattle.outline_cmd.specs.SmallFile.{Header, HoldsAfter, number_at, past_title, document_at, mine_at, header_at, rest_of, own_counts, past_own_counts, maker_at, time_at, work_at, puts_at, change_at, past_base, no_change, changes_at, small_at}
 use Rattle.outline_cmd.proofs.ReaderLaws.{some_is}
 use Rattle.outline_cmd.proofs.FileLaws.{small_takes, small_again}
 
@@ -61,7 +61,7 @@ no_changes bytes from headed based sizes same head e1 e2 =
 
 -- the changes of a file, and what they make of the empty document
 abbrev Kept : Sizes → List ℕ → List ℕ → Document → Document → Type 0
-Kept sizes based rest old new = (cs : List Change) × (changes_at sizes.members no_change sizes.kept based ≡ Some (cs, rest)) × ((s : State) → Holds old s → Holds new (after s (atoms cs)))
+Kept sizes based rest old new = (cs : List Change) × (changes_at sizes.members no_change sizes.kept based ≡ Some (cs, rest)) × HoldsAfter old new (atoms cs)
 
 pub no_end : (bytes from headed based rest : List ℕ) (sizes : Sizes) (old new : Document) → from ≡ bytes → Headed from sizes headed → past_base sizes.members headed ≡ Some based → Kept sizes based rest old new → (rest ≡ [] → ⊥) → small_at bytes ≡ None
 unfolding small_at

@@ -1,6 +1,7 @@
 -- What a command means, over files: the text that it prints, or its refusal.
 use Rattle.std.specs.Prelude.{◌≡◌, ℕ, List, Option, Some, None, Result, Ok, Err}
 use Rattle.outside.specs.Files.{Files, file_at}
+use Rattle.cbor_det.specs.Head.{IsBytes}
 use Rattle.model.specs.File.{File, SpellsSmall}
 use Rattle.model.specs.State.{replay}
 use Rattle.model.specs.View.{view}
@@ -23,6 +24,10 @@ Continues next (Err refusal) outcome = outcome ≡ Err refusal
 infixl 10 ◌>>=◌
 abbrev pub ◌>>=◌ : {A B : Type 0} → Meaning A → (A → Meaning B) → Meaning B
 (◌>>=◌) {A} {B} first next = λ outcome. (step : Result A Status) × first step × Continues next step outcome
+
+-- each file is of bytes
+abbrev pub HoldBytes : Files → Type 0
+HoldBytes files = (name bytes : List ℕ) → file_at files name ≡ Some bytes → IsBytes bytes
 
 -- no small file has this spelling
 abbrev pub SpellsNone : List ℕ → Type 0

@@ -1,4 +1,4 @@
--- A small file read from the front of some bytes, part by part: where a part is spelled, what it says and the bytes after it.
+-- Reading a small file from the front of some bytes, part by part: what a part says and the bytes after it, where it is spelled there.
 use Rattle.std.specs.Prelude.{ℕ, zero, suc, ◌+◌, ◌-◌, ◌^◌, ◌==◌, ◌&&◌, nat_lt, nat_le, if◌then◌else◌, Bool, true, List, [], ◌∷◌, length, replicate, slice_set, codes, Option, Some, None}
 use Rattle.std.specs.Result.{result_ok}
 use Rattle.std.specs.Str.{bytes_eq}
@@ -6,7 +6,10 @@ use Rattle.cbor_det.specs.Reading.{argument_at, bytes_at, text_at}
 use Rattle.model.specs.Value.{Operation}
 use Rattle.model.specs.Change.{Change}
 use Rattle.model.specs.File.{File}
+use Rattle.model.specs.State.{State, Atom, after}
+use Rattle.outline_cmd.specs.declared.doc_store.Document.{Document}
 use Rattle.outline_cmd.specs.declared.replica.Last.{Last}
+use Rattle.outline_cmd.specs.Document.{Holds}
 use Rattle.outline_cmd.specs.Grammar.{◌>>=◌, Reader, past_head, body_at}
 
 -- ---- numbers
@@ -17,7 +20,7 @@ number_at low limit bytes = do
   n ← result_ok (argument_at 0 bytes)
   if nat_le low n.0 && nat_lt n.0 limit then Some n else None
 
--- so many numbers below the limit, of which each is greater than the one before it and the first is not below low
+-- so many numbers from low on and below the limit, each greater than the one before it
 unfoldable pub rising_at : ℕ → ℕ → ℕ → Reader (List ℕ)
 rising_at limit low zero bytes = Some ([], bytes)
 rising_at limit low (suc count) bytes = do
@@ -25,7 +28,7 @@ rising_at limit low (suc count) bytes = do
   more ← rising_at limit (n.0 + 1) count n.1
   Some (n.0 ∷ more.0, more.1)
 
--- what comes after a part, whatever it says
+-- the bytes after a part, whatever it says
 abbrev pub rest_of : {X : Type 0} → Option (X × List ℕ) → Option (List ℕ)
 rest_of read = read >>= λ x. Some x.1
 
@@ -52,6 +55,7 @@ past_title bytes = do
   format ← past_head 0 1 word
   past_head 0 0 format
 
+-- the document's id
 unfoldable pub document_at : Reader (List ℕ)
 document_at bytes = do
   id ← result_ok (bytes_at bytes)
@@ -100,6 +104,7 @@ past_own_counts n member own bytes = do
 
 -- ---- the empty base of n members
 
+-- a member's row: no changes, the last at time 0, and none known of any member
 unfoldable pub past_row : ℕ → List ℕ → Option (List ℕ)
 past_row n bytes = do
   fields ← past_head 4 3 bytes
@@ -109,6 +114,7 @@ past_row n bytes = do
 unfoldable pub past_rows : ℕ → List ℕ → Option (List ℕ)
 past_rows n bytes = past_head 4 n bytes >>= past_many (past_row n) n
 
+-- the other six tables, which are empty
 unfoldable pub past_tables : List ℕ → Option (List ℕ)
 past_tables bytes = past_many (past_head 4 0) 6 bytes
 
@@ -121,12 +127,12 @@ past_base n bytes = do
 
 -- ---- changes
 
--- whether the member may make the next change
+-- whether the member may have made the change behind one of this maker, if there is one
 abbrev pub may_follow : Option ℕ → ℕ → Bool
 may_follow None member = true
 may_follow (Some maker) member = member == maker
 
--- a change, as the one that was read last
+-- what the next change depends on
 abbrev pub last_of : Change → Last
 last_of c = record { member = Some c.member; number = c.number; time = c.time }
 
@@ -134,7 +140,7 @@ last_of c = record { member = Some c.member; number = c.number; time = c.time }
 abbrev pub no_change : Last
 no_change = record { member = None; number = 0; time = 0 }
 
--- who made the change that follows the last one, of n members
+-- the member, of n, who made a change that follows the last one
 unfoldable pub maker_at : ℕ → Last → Reader ℕ
 maker_at n last bytes = do
   fields ← past_head 4 7 bytes
@@ -162,6 +168,7 @@ puts_at bytes = do
   operations ← body_at work.0.0 work.0.1
   Some (operations, work.1)
 
+-- a change that follows the last one
 unfoldable pub change_at : ℕ → Last → Reader Change
 change_at n last bytes = do
   member ← maker_at n last bytes
@@ -177,6 +184,10 @@ changes_at n last (suc count) bytes = do
   c ← change_at n last bytes
   more ← changes_at n (last_of c.0) count c.1
   Some (c.0 ∷ more.0, more.1)
+
+-- What the document holds after these operations.
+abbrev pub HoldsAfter : Document → Document → List Atom → Type 0
+HoldsAfter old new list = (s : State) → Holds old s → Holds new (after s list)
 
 -- ---- all of the bytes
 

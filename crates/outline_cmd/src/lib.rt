@@ -7,6 +7,7 @@ mod doc_store;
 mod fault;
 mod fields;
 mod input;
+pub mod laws;
 mod op_grammar;
 mod outline_show;
 mod program;

@@ -53,6 +53,7 @@ fn show<K: Keeper>(alloc: Global, keeper: &mut K, name: &str) -> Result<String, 
 fn print<S: Sink>(out: &mut S, text: &[u8]) -> Status
     ensures done { result ≡ Done → S.written out.new ≡ appended (S.written out.old) text.now }
     ensures fault { result ≡ SinkFault → Rose (S.faults out.old) (S.faults out.new) }
+    ensures later { S.faults out.old ≤ S.faults out.new }
     ensures front { (n : ℕ) × (S.written out.new ≡ appended (S.written out.old) (take n text.now)) }
     ensures either { (result ≡ Done) ⊎ (result ≡ SinkFault) }
 {
@@ -99,6 +100,7 @@ pub fn run<K: Keeper, S: Sink>(
     ensures prints { Prints result (S.written out.old) (S.written out.new) }
     ensures read_fault { (word : ℕ) → result ≡ ReadFault word → LoadFailedAt words.now word (K.load_faults keeper.old) (K.load_faults keeper.new) (K.failed keeper.old) (K.failed keeper.new) }
     ensures sink_fault { result ≡ SinkFault → Rose (S.faults out.old) (S.faults out.new) }
+    ensures sink_count { S.faults out.old ≤ S.faults out.new }
     ensures tally { tally.new ≡ tally.old }
 {
     let text = match answer(alloc, words, keeper) {

@@ -3,11 +3,11 @@
 ghost use Rattle.std.specs.Prelude.{◌≡◌, ◌≢◌, ℕ, ◌+◌, ◌^◌, ◌<◌, ◌≤◌, List, length, None, Some, Err, IfOk, OnOk};
 ghost use Rattle.model.specs.Change.{Change};
 ghost use Rattle.model.specs.File.{File, SpellsSmall, file_limit};
-ghost use Rattle.model.specs.State.{State, after, atoms, change_atoms, replay};
+ghost use Rattle.model.specs.State.{atoms, change_atoms, replay};
 ghost use Rattle.cbor_det.specs.Unread.{unread};
 ghost use Rattle.outline_cmd.specs.Document.{Holds};
 ghost use Rattle.outline_cmd.specs.Grammar.{ReadsBy, Passes};
-ghost use Rattle.outline_cmd.specs.SmallFile.{Header, rest_of, rising_at, past_title, document_at, mine_at, header_at, past_row, past_rows, past_tables, past_base, maker_at, time_at, work_at, change_at, changes_at, last_of, no_change, small_at};
+ghost use Rattle.outline_cmd.specs.SmallFile.{Header, HoldsAfter, rest_of, rising_at, past_title, document_at, mine_at, header_at, past_row, past_rows, past_tables, past_base, maker_at, time_at, work_at, change_at, changes_at, last_of, no_change, small_at};
 ghost use Rattle.outline_cmd.specs.declared.fault.FileFault.TheVariants.{NotSmall};
 
 use crate::doc_store::Document;
@@ -55,7 +55,7 @@ struct Last {
 
 // ---- the header
 
-/// Goes past the head of the header: the word, the format and the kind.
+/// Goes past the front of the header: the word, the format and the kind of a member file.
 #[tactic(auto, unfolding(crate::specs::SmallFile::past_title))]
 fn pass_title(cursor: &mut Cursor<'_>) -> Result<(), FileFault>
     ensures { Passes cursor.old cursor.new result past_title }
@@ -100,9 +100,12 @@ fn pass_mine(cursor: &mut Cursor<'_>, members: u64) -> Result<(), FileFault>
     pass_rising(cursor, members, count)
 }
 
+/// What the header announces, which has to be that of a member file with nothing waiting.
 #[tactic(auto, unfolding(crate::specs::SmallFile::header_at))]
 fn read_header(cursor: &mut Cursor<'_>) -> Result<Sizes, FileFault>
-    ensures found { IfOk result (λ sizes. (h : Header) × (header_at (unread cursor.old).rest ≡ Some (h, (unread cursor.new).rest)) × (sizes ≡ record { members = h.members; kept = h.kept })) }
+    ensures found { IfOk result (λ sizes. (h : Header)
+        × (header_at (unread cursor.old).rest ≡ Some (h, (unread cursor.new).rest))
+        × (sizes ≡ record { members = h.members; kept = h.kept })) }
     ensures within { IfOk result (λ sizes. sizes.kept < 2 ^ 32) }
     ensures refused { result ≡ Err NotSmall → header_at (unread cursor.old).rest ≡ None }
 {
@@ -163,7 +166,7 @@ fn pass_base(cursor: &mut Cursor<'_>, members: u64) -> Result<(), FileFault>
 
 // ---- changes
 
-/// The member that made a change, which is the one that made the last.
+/// The member that made a change, which is the one that made the last, if there is one.
 #[tactic(auto, unfolding(crate::specs::SmallFile::maker_at))]
 fn read_maker(cursor: &mut Cursor<'_>, members: u64, last: Last) -> Result<u64, FileFault>
     ensures read { ReadsBy (λ m. m) cursor.old cursor.new result (maker_at members last) }
@@ -177,7 +180,7 @@ fn read_maker(cursor: &mut Cursor<'_>, members: u64, last: Last) -> Result<u64, 
     }
 }
 
-/// The time of a change, which is later than the last and has the next number.
+/// The time of a change that has the next number and is later than the last.
 #[tactic(auto, unfolding(crate::specs::SmallFile::time_at))]
 fn read_time(cursor: &mut Cursor<'_>, last: Last) -> Result<u64, FileFault>
     requires number { last.number < 2 ^ 32 }
@@ -214,8 +217,9 @@ fn read_change<'a>(
 ) -> Result<Last, FileFault>
     requires number { last.number < 2 ^ 32 }
     requires time { last.time < 2 ^ 48 }
-    ensures found { IfOk result (λ next. (c : Change) × (change_at members last (unread cursor.old).rest ≡ Some (c, (unread cursor.new).rest)) × (next ≡ last_of c)
-        × ((s : State) → Holds document.old s → Holds document.new (after s (change_atoms c)))) }
+    ensures found { IfOk result (λ next. (c : Change)
+        × (change_at members last (unread cursor.old).rest ≡ Some (c, (unread cursor.new).rest))
+        × (next ≡ last_of c) × HoldsAfter document.old document.new (change_atoms c)) }
     ensures within { IfOk result (λ next. (next.number ≡ last.number + 1) × (next.time < 2 ^ 48)) }
     ensures refused { result ≡ Err NotSmall → change_at members last (unread cursor.old).rest ≡ None }
 {
@@ -238,9 +242,12 @@ fn read_kept<'a>(
     document: &mut Document<'a>,
 ) -> Result<(), FileFault>
     requires { sizes.kept < 2 ^ 32 }
-    ensures found { OnOk result ((cs : List Change) × (changes_at sizes.members no_change sizes.kept (unread cursor.old).rest ≡ Some (cs, (unread cursor.new).rest))
-        × ((s : State) → Holds document.old s → Holds document.new (after s (atoms cs)))) }
-    ensures refused { result ≡ Err NotSmall → changes_at sizes.members no_change sizes.kept (unread cursor.old).rest ≡ None }
+    ensures found { OnOk result ((cs : List Change)
+        × (changes_at sizes.members no_change sizes.kept (unread cursor.old).rest
+        ≡ Some (cs, (unread cursor.new).rest))
+        × HoldsAfter document.old document.new (atoms cs)) }
+    ensures refused { result ≡ Err NotSmall
+        → changes_at sizes.members no_change sizes.kept (unread cursor.old).rest ≡ None }
 {
     let mut last = Last {
         member: None,
@@ -255,7 +262,7 @@ fn read_kept<'a>(
 
 // ---- files
 
-/// The document of a file that is read from its start to its end.
+/// The document of a small file, read from its start to its end.
 fn read_file<'a>(alloc: Global, bytes: &'a [u8]) -> Result<Document<'a>, FileFault>
     ensures found { IfOk result (λ d. (f : File) × (small_at bytes.now ≡ Some f) × Holds d (replay f.kept)) }
     ensures refused { result ≡ Err NotSmall → small_at bytes.now ≡ None }
