@@ -1,4 +1,5 @@
-// A document in memory.
+//! A document in memory.
+
 ghost use Rattle.std.specs.Prelude.{◌≡◌, OnOk, OnErr, map};
 ghost use Rattle.model.specs.State.{State, empty_state, step};
 ghost use Rattle.model.specs.Value.{put_key};

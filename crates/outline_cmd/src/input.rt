@@ -1,3 +1,5 @@
+//! A file that is loaded in pieces, to its end or past the limit.
+
 ghost use Rattle.std.specs.Prelude.{◌≡◌, ◌<◌, ◌≤◌, ◌+◌, ◌^◌, ℕ, List, Some, Err, length, vec_len, IfOk, IfErr, OnOk};
 ghost use Rattle.outside.specs.Files.{Files, file_at};
 ghost use Rattle.outside.specs.Keeper.{OnlyLoaded};
@@ -39,12 +41,15 @@ fn load_piece<K: Keeper>(
     bytes: &mut Vec<u8>,
 ) -> Result<Piece, KeeperFault>
     requires { 0 < length room.old }
-    ensures told { (files : Files) → K.files keeper.old ≡ Some files → IsFrontOf (file_at files name.now) bytes.old.items
+    ensures told { (files : Files) → K.files keeper.old ≡ Some files
+        → IsFrontOf (file_at files name.now) bytes.old.items
         → BringsMore (file_at files name.now) bytes.old.items bytes.new.items result }
     ensures grows { Grows (vec_len bytes.old) (vec_len bytes.new) result }
     ensures loads { OnlyLoaded K.files K.load_faults K.store_faults keeper.old keeper.new }
     ensures same_failed { OnOk result (K.failed keeper.new ≡ K.failed keeper.old) }
-    ensures fault { result ≡ Err Failed → LoadFailed name.now (K.load_faults keeper.old) (K.load_faults keeper.new) (K.failed keeper.old) (K.failed keeper.new) }
+    ensures fault { result ≡ Err Failed
+        → LoadFailed name.now (K.load_faults keeper.old) (K.load_faults keeper.new)
+        (K.failed keeper.old) (K.failed keeper.new) }
 {
     match keeper.load(name, bytes.len() as u64, room)? {
         Load::Missing => Ok(Piece::Missing),
@@ -63,10 +68,13 @@ pub(crate) fn load_file<K: Keeper>(
     word: u32,
     name: &str,
 ) -> Result<Vec<u8>, Status>
-    ensures told { (files : Files) → K.files keeper.old ≡ Some files → Brings (file_at files name.now) word result }
+    ensures told { (files : Files) → K.files keeper.old ≡ Some files
+        → Brings (file_at files name.now) word result }
     ensures bound { IfOk result (λ bytes. vec_len bytes ≤ file_limit) }
     ensures loads { OnlyLoaded K.files K.load_faults K.store_faults keeper.old keeper.new }
-    ensures fault { (w : ℕ) → result ≡ Err (ReadFault w) → LoadFailed name.now (K.load_faults keeper.old) (K.load_faults keeper.new) (K.failed keeper.old) (K.failed keeper.new) }
+    ensures fault { (w : ℕ) → result ≡ Err (ReadFault w)
+        → LoadFailed name.now (K.load_faults keeper.old) (K.load_faults keeper.new)
+        (K.failed keeper.old) (K.failed keeper.new) }
     ensures refusals { IfErr result (IsOfInput word) }
 {
     let mut room = match zeros(alloc, PIECE) {

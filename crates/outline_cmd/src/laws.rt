@@ -7,11 +7,14 @@ ghost use Rattle.outline_cmd.specs.declared.status.Status.{Status};
 
 /// Bytes spell at most one small file.
 pub fn one_small_file()
-    ensures { (bytes : List ℕ) (f g : File) → SpellsSmall bytes f → SpellsSmall bytes g → f ≡ g }
+    ensures { (bytes : List ℕ) (f g : File)
+        → SpellsSmall bytes f → SpellsSmall bytes g → f ≡ g }
 {}
 
 /// Over files of bytes a command line means one outcome, and no other.
 pub fn one_meaning()
-    ensures some { (files : Files) (words : List (List ℕ)) → HoldBytes files → (outcome : Result (List ℕ) Status) × meaning files words outcome }
-    ensures only { (files : Files) (words : List (List ℕ)) (one other : Result (List ℕ) Status) → meaning files words one → meaning files words other → one ≡ other }
+    ensures some { (files : Files) (words : List (List ℕ)) → HoldBytes files
+        → (outcome : Result (List ℕ) Status) × meaning files words outcome }
+    ensures only { (files : Files) (words : List (List ℕ)) (one other : Result (List ℕ) Status)
+        → meaning files words one → meaning files words other → one ≡ other }
 {}

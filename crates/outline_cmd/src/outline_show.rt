@@ -1,4 +1,5 @@
-// What a document shows, in printed lines.
+//! What a document shows, in printed lines.
+
 ghost use Rattle.std.specs.Prelude.{◌≡◌, [], ◌++◌, flat_map, encode_utf8, string_bytes, IfOk, OnOk};
 ghost use Rattle.std.specs.Option.{option_map_or};
 ghost use Rattle.model.specs.State.{State};

@@ -1,3 +1,5 @@
+//! How a run ends: the statuses, their numbers and their lines.
+
 ghost use Rattle.std.specs.Prelude.{◌≡◌, IfOk};
 ghost use Rattle.outline_cmd.specs.Status.{number, line};
 

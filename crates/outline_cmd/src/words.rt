@@ -1,3 +1,5 @@
+//! The words of a command line, and the command that they give.
+
 ghost use Rattle.std.specs.Prelude.{◌≡◌, ◌++◌, ◌∷◌, [], List, ℕ, OnOk, OnErr, map, string_bytes};
 ghost use Rattle.std.specs.List.{list_all};
 ghost use Rattle.outline_cmd.specs.Words.{is_name_byte, is_name, is_command, wrong_word, order_of, command_order, show_order};
