@@ -2,7 +2,7 @@
 //! status. Stands on `outline_cmd`, which does all the work, and on `outside` for the host's files and output.
 #![tactic(auto)]
 
-use outline_cmd::{number_of, run, status_line, Status, Words};
+use outline_cmd::{Status, Words, number_of, run, status_line};
 use outside::{HostKeeper, HostSink, Tally};
 use std::alloc::Global;
 use std::env::{self, Env};

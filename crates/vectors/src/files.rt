@@ -3,7 +3,9 @@ use std::alloc::{AllocError, Global};
 
 /// The first byte of a head with argument 0, by what follows.
 pub(crate) const NUMBER: u8 = 0x00;
+
 pub(crate) const BYTES: u8 = 0x40;
+
 pub(crate) const ARRAY: u8 = 0x80;
 
 /// Appends the shortest head.

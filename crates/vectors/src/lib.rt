@@ -3,6 +3,5 @@
 
 #[cfg(test)]
 mod files;
-
 #[cfg(test)]
 mod tests;

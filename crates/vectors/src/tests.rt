@@ -1,13 +1,18 @@
 use crate::files::{one_change, push_change, push_front, push_put};
-use outline_cmd::{number_of, run, status_line, Status, Words};
+use outline_cmd::{Status, Words, number_of, run, status_line};
 use outside::{MemKeeper, MemSink, Tally};
 use std::alloc::Global;
 use std::test::*;
 
 /// The file of 55 bytes without a change, and the one of 74 bytes whose change puts `a` to true.
-const NO_CHANGE: &[u8] = b"\x88\x67outline\x01\x00\x50\x00\x01\x02\x03\x04\x05\x06\x07\x08\x09\x0a\x0b\x0c\x0d\x0e\x0f\x02\x82\x00\x01\x00\x00\x88\x00\x82\x83\x00\x00\x82\x00\x00\x83\x00\x00\x82\x00\x00\x80\x80\x80\x80\x80\x80";
-const ONE_KEY: &[u8] = b"\x88\x67outline\x01\x00\x50\x00\x01\x02\x03\x04\x05\x06\x07\x08\x09\x0a\x0b\x0c\x0d\x0e\x0f\x02\x82\x00\x01\x01\x00\x88\x00\x82\x83\x00\x00\x82\x00\x00\x83\x00\x00\x82\x00\x00\x80\x80\x80\x80\x80\x80\x87\x00\x01\x01\x82\x00\x00\x01\x01\x49\x84\x02\x83\x00\x00\x00\x61a\xf5";
-const LONGER_COUNT: &[u8] = b"\x88\x67outline\x01\x00\x50\x00\x01\x02\x03\x04\x05\x06\x07\x08\x09\x0a\x0b\x0c\x0d\x0e\x0f\x02\x82\x00\x01\x01\x00\x88\x00\x82\x83\x00\x00\x82\x00\x00\x83\x00\x00\x82\x00\x00\x80\x80\x80\x80\x80\x80\x87\x00\x01\x01\x82\x00\x00\x18\x01\x01\x49\x84\x02\x83\x00\x00\x00\x61a\xf5";
+const NO_CHANGE: &[u8] =
+    b"\x88\x67outline\x01\x00\x50\x00\x01\x02\x03\x04\x05\x06\x07\x08\x09\x0a\x0b\x0c\x0d\x0e\x0f\x02\x82\x00\x01\x00\x00\x88\x00\x82\x83\x00\x00\x82\x00\x00\x83\x00\x00\x82\x00\x00\x80\x80\x80\x80\x80\x80";
+
+const ONE_KEY: &[u8] =
+    b"\x88\x67outline\x01\x00\x50\x00\x01\x02\x03\x04\x05\x06\x07\x08\x09\x0a\x0b\x0c\x0d\x0e\x0f\x02\x82\x00\x01\x01\x00\x88\x00\x82\x83\x00\x00\x82\x00\x00\x83\x00\x00\x82\x00\x00\x80\x80\x80\x80\x80\x80\x87\x00\x01\x01\x82\x00\x00\x01\x01\x49\x84\x02\x83\x00\x00\x00\x61a\xf5";
+
+const LONGER_COUNT: &[u8] =
+    b"\x88\x67outline\x01\x00\x50\x00\x01\x02\x03\x04\x05\x06\x07\x08\x09\x0a\x0b\x0c\x0d\x0e\x0f\x02\x82\x00\x01\x01\x00\x88\x00\x82\x83\x00\x00\x82\x00\x00\x83\x00\x00\x82\x00\x00\x80\x80\x80\x80\x80\x80\x87\x00\x01\x01\x82\x00\x00\x18\x01\x01\x49\x84\x02\x83\x00\x00\x00\x61a\xf5";
 
 const ONE_KEY_TEXT: &[u8] = b"node 0 root\nkey \"a\" true\n";
 
@@ -75,9 +80,18 @@ fn answers_words(rt: HostRuntime) -> Result<(), Fail> {
         (["frob"].as_slice(), Status::Words { line: 0, word: 0 }),
         (["--help"].as_slice(), Status::Words { line: 0, word: 0 }),
         (["show"].as_slice(), Status::Words { line: 0, word: 1 }),
-        (["show", ".a"].as_slice(), Status::Words { line: 0, word: 1 }),
-        (["show", "a/b", "c"].as_slice(), Status::Words { line: 0, word: 1 }),
-        (["show", "a", ""].as_slice(), Status::Words { line: 0, word: 2 }),
+        (
+            ["show", ".a"].as_slice(),
+            Status::Words { line: 0, word: 1 },
+        ),
+        (
+            ["show", "a/b", "c"].as_slice(),
+            Status::Words { line: 0, word: 1 },
+        ),
+        (
+            ["show", "a", ""].as_slice(),
+            Status::Words { line: 0, word: 2 },
+        ),
         (["found"].as_slice(), Status::NotBuilt { word: 0 }),
         (["show", "b"].as_slice(), Status::Missing { word: 1 }),
     ];
@@ -126,7 +140,14 @@ fn prints_a_front(rt: HostRuntime) -> Result<(), Fail> {
     assert_eq!(rt; answer, Status::SinkFault);
     assert!(rt; printed, "nothing is printed");
     let short = MemSink::new(alloc, 16, &[])?;
-    let (answer, printed) = prints(alloc, &["show", "a"], ONE_KEY, &[], short, b"node 0 root\nkey ")?;
+    let (answer, printed) = prints(
+        alloc,
+        &["show", "a"],
+        ONE_KEY,
+        &[],
+        short,
+        b"node 0 root\nkey ",
+    )?;
     assert_eq!(rt; answer, Status::SinkFault);
     assert!(rt; printed, "what there is room for is printed");
     Ok(())
@@ -220,7 +241,11 @@ fn says_statuses(rt: HostRuntime) -> Result<(), Fail> {
     let alloc = rt.alloc();
     let table = [
         (Status::Done, 0, "outline: Done\n"),
-        (Status::Words { line: 4, word: 3 }, 1, "outline: Words 4 3\n"),
+        (
+            Status::Words { line: 4, word: 3 },
+            1,
+            "outline: Words 4 3\n",
+        ),
         (Status::Missing { word: 1 }, 2, "outline: Missing 1\n"),
         (Status::ReadFault { word: 1 }, 4, "outline: ReadFault 1\n"),
         (Status::SinkFault, 6, "outline: SinkFault\n"),
