@@ -1,12 +1,11 @@
--- Lemmas on the root's rows, and on the map that a document keeps them in.
-use Rattle.std.proofs.Common.{◌≡◌, ℕ, Bool, true, false, cond, ◌&&◌, List, [], ◌∷◌, map, length, Option, Some, None, refl, sym, ap, ◌∙◌, arith}
+-- Lemmas on the root's rows.
+use Rattle.std.proofs.Common.{◌≡◌, ℕ, Bool, true, false, cond, ◌&&◌, List, [], ◌∷◌, length, Option, Some, None, refl, sym, ap, ◌∙◌, arith}
 use Rattle.std.specs.Prelude.{T}
 use Rattle.std.specs.List.{filter_map, cons_option}
 use Rattle.std.specs.declared.cmp.Ordering.{Ordering}
 use Rattle.std.specs.declared.cmp.Ordering.TheVariants.{Less, Equal, Greater}
-use Rattle.std.specs.Ordering.{ordering_then, is_lt, is_eq, nat_cmp, match_ordering}
+use Rattle.std.specs.Ordering.{ordering_then, is_lt, is_eq, nat_cmp}
 use Rattle.std.specs.Cmp.Lexicographic.{slice_cmp}
-use Rattle.std.specs.BTreeMap.{insert_entry}
 use Rattle.std.specs.FinMap.{entries, empty, put, is_sorted, entries_sorted, entries-insert, len-empty, len-entries}
 use Rattle.std.specs.FinMap.Entries.{below_all, by_order}
 use Rattle.op_ids.specs.declared.OpId.{OpId}
@@ -26,26 +25,6 @@ Entry = Register × Written
 -- the order of the keys of one node
 abbrev pub key_cmp : List ℕ → List ℕ → Ordering
 key_cmp = slice_cmp nat_cmp
-
--- ---- a map whose keys compare as what they show
-
-module _ {K X L Y : Type 0} (S : L → L → Ordering) (f : K → L) (g : X → Y) where
-  abbrev shape : K × X → L × Y
-  shape e = (f e.0, g e.1)
-
-  abbrev inserted : List (K × X) → K → X → List (K × X)
-  inserted es k v = insert_entry (λ x y. S (f x) (f y)) es k v
-
-  insert_by : (o : Ordering) (k : K) (v : X) (e : K × X) (es : List (K × X)) → map shape (inserted es k v) ≡ put S (f k) (g v) (map shape es)
-      → map shape (match_ordering o ((k, v) ∷ e ∷ es) ((e.0, v) ∷ es) (e ∷ inserted es k v))
-      ≡ by_order o ((f k, g v) ∷ map shape (e ∷ es)) ((f e.0, g v) ∷ map shape es) (shape e ∷ put S (f k) (g v) (map shape es))
-  insert_by Less k v e es rest = refl
-  insert_by Equal k v e es rest = refl
-  insert_by Greater k v e es rest = ap (λ more. shape e ∷ more) rest
-
-  pub map-insert_entry : (es : List (K × X)) (k : K) (v : X) → map (λ e. (f e.0, g e.1)) (insert_entry (λ x y. S (f x) (f y)) es k v) ≡ put S (f k) (g v) (map (λ e. (f e.0, g e.1)) es)
-  map-insert_entry [] k v = refl
-  map-insert_entry (e ∷ es) k v = insert_by (S (f k) (f e.0)) k v e es (map-insert_entry es k v)
 
 -- ---- the rows of one node in a table of registers
 
@@ -128,8 +107,11 @@ no_entries : {A : Type 0} (es : List A) → length es ≡ 0 → es ≡ []
 no_entries [] e = refl
 no_entries (x ∷ es) e = absurd (omega arith)
 
+pub entries-empty : {K X : Type 0} (R : K → K → Ordering) → entries (empty {X = X} {R = R}) ≡ []
+entries-empty {X = X} R = no_entries (entries (empty {R = R})) (sym (len-entries empty) ∙ len-empty R X)
+
 pub root_rows-empty : root_rows empty_state ≡ []
-root_rows-empty = ap (filter_map root_row) (no_entries (entries (empty {X = Written} {R = register_cmp})) (sym (len-entries empty) ∙ len-empty register_cmp Written))
+root_rows-empty = ap (filter_map root_row) (entries-empty register_cmp)
 
 pub root_rows-step : (s : State) (id : OpId) (key : List ℕ) (value : Value) → root_rows (step s (record { id = id; operation = put_key root_id key value })) ≡ put key_cmp key value (root_rows s)
 root_rows-step s id key value =

@@ -1,5 +1,6 @@
 pub mod Loads
 pub mod Runs
+pub mod PutLaws
 pub mod DocumentLaws
 pub mod TextLaws
 pub mod ReaderLaws

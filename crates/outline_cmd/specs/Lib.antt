@@ -5,6 +5,7 @@ pub mod Meaning
 pub mod Run
 pub mod Input
 pub mod Values
+pub mod Front
 pub mod Document
 pub mod Grammar
 pub mod SmallFile

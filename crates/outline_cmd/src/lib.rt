@@ -11,6 +11,7 @@ pub mod laws;
 mod op_grammar;
 mod outline_show;
 mod program;
+mod put;
 mod replica;
 mod status;
 mod value;

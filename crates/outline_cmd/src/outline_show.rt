@@ -13,13 +13,14 @@ use crate::value::Value;
 use std::alloc::{AllocError, Global};
 
 /// The document in printed lines, one for the root and one for each key whose value isn't null.
-pub(crate) fn show_text(alloc: Global, document: &Document<'_>) -> Result<String, AllocError>
-    ensures { (s : State) → Holds document.now s
+pub(crate) fn show_text(alloc: Global, document: Document<'_>) -> Result<String, AllocError>
+    ensures { (s : State) → Holds document.entry s
         → IfOk result (λ text. string_bytes text ≡ printed.show_text (view s)) }
 {
+    let puts = document.into_rows()?;
     let mut text = String::from_str(alloc, "node 0 root\n")?;
-    for (key, value) in document.rows() {
-        push_entry(alloc, &mut text, key, *value)?;
+    for put in &puts {
+        push_entry(alloc, &mut text, put.key, put.value)?;
     }
     Ok(text)
 }

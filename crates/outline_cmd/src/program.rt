@@ -30,7 +30,7 @@ fn shown(alloc: Global, bytes: &[u8]) -> Result<String, FileFault>
     ensures only { (f : File) → SpellsSmall bytes.now f → result ≢ Err NotSmall }
 {
     let document = read_document(alloc, bytes)?;
-    match show_text(alloc, &document) {
+    match show_text(alloc, document) {
         Ok(text) => Ok(text),
         Err(_) => Err(FileFault::Memory),
     }
