@@ -12,6 +12,7 @@ use std::cmp::Ordering;
 /// mostly reads nothing of the file.
 #[derive(Clone, Copy)]
 pub(crate) struct Put<'a> {
+    /// The first 8 bytes of the key, with zeros past its end.
     front: [u8; 8],
     pub(crate) key: &'a str,
     pub(crate) value: Value<'a>,
