@@ -46,6 +46,13 @@ impl<'a> Cursor<'a> {
         self.rest.is_empty()
     }
 
+    /// The bytes from the place on, which are still to be read.
+    pub fn rest(&self) -> &'a [u8]
+        ensures { result.now ≡ (unread self.now).rest }
+    {
+        self.rest
+    }
+
     /// A fault by its place in all of the bytes.
     fn fault(&self, stop: Stop) -> CborFault
         requires { stop.left ≤ length (unread self.now).rest }

@@ -1,7 +1,9 @@
 pub mod Value
 pub mod Change
-pub mod File
 pub mod State
+pub mod Ledger
+pub mod Stability
+pub mod File
+pub mod Stands
 pub mod View
 pub mod Text
-pub mod Laws

@@ -1,8 +1,10 @@
--- A view in printed lines, each ended by a line feed.
-use Rattle.std.specs.Prelude.{ℕ, ◌/◌, ◌%◌, ◌||◌, ◌==◌, nat_lt, if◌then◌else◌, true, false, List, [], ◌∷◌, ◌++◌, codes, decimal, flat_map, slice_index}
+-- Printed lines, each ended by a line feed.
+use Rattle.std.specs.Prelude.{ℕ, ◌/◌, ◌%◌, ◌||◌, ◌==◌, nat_lt, if◌then◌else◌, true, false, List, [], ◌∷◌, ◌++◌, codes, decimal, flat_map, map, slice_index}
+use Rattle.std.specs.List.{join_with_byte}
 use Rattle.std.specs.Fmt.{signed_decimal}
 use Rattle.op_ids.specs.Text.{id_word}
 use Rattle.model.specs.Value.{Value, null, truth, integer, text, bytes}
+use Rattle.model.specs.Change.{Change}
 use Rattle.model.specs.View.{Entry, ViewNode}
 
 abbrev pub hex_digit : ℕ → ℕ
@@ -41,3 +43,12 @@ node_line n = codes "node " ++ (decimal n.depth ++ (codes " " ++ (id_word n.id +
 -- a line for each node, and one for each of its entries behind it
 abbrev pub show_text : List ViewNode → List ℕ
 show_text nodes = flat_map (λ n. node_line n ++ flat_map entry_line n.entries) nodes
+
+-- the members that a file holds
+abbrev pub holds_line : List ℕ → List ℕ
+holds_line [] = codes "holds nobody\n"
+holds_line (m ∷ ms) = codes "holds " ++ (join_with_byte 44 (map decimal (m ∷ ms)) ++ codes "\n")
+
+-- a change that was made: its member, its number and its time
+abbrev pub made_line : Change → List ℕ
+made_line c = codes "made " ++ (decimal c.member ++ (codes " " ++ (decimal c.number ++ (codes " " ++ (decimal c.time ++ codes "\n")))))

@@ -1,5 +1,7 @@
 pub mod Loads
-pub mod Runs
+pub mod StageLaws
+pub mod EditLaws
+pub mod RunLaws
 pub mod PutLaws
 pub mod DocumentLaws
 pub mod TextLaws
@@ -18,3 +20,8 @@ pub mod RisingLoop
 pub mod KeptLoop
 pub mod ReadLaws
 pub mod MeaningLaws
+pub mod EditMeaning
+pub mod LedgerMeaning
+pub mod OrderLaws
+pub mod FoundLaws
+pub mod HexLaws

@@ -1,11 +1,16 @@
 -- Loads one after the other bring a front of the file, and at its end all of it.
-use Rattle.std.proofs.Common.{◌≡◌, ℕ, ◌<◌, ◌≤◌, List, [], ◌++◌, length, take, drop, Option, None, Some, refl, sym, ap, subst, ◌∙◌, append_assoc, arith, length-append}
+use Rattle.std.proofs.Common.{inl, inr, ◌≡◌, ℕ, ◌<◌, ◌≤◌, List, [], ◌++◌, length, take, drop, Option, None, Some, Ok, Err, ◌+◌, refl, sym, ap, subst, ◌∙◌, append_assoc, arith, length-append}
 use Rattle.std.proofs.lemmas.List.{append-nil, nil_from_length, take-append-drop}
 use Rattle.std.proofs.Math.Seq.{drop-append_seam}
+use Rattle.std.proofs.lemmas.Bool.{le-leb, lt-leb}
 use Rattle.outside.specs.declared.keeper.Load.{Load}
 use Rattle.outside.specs.declared.keeper.Load.TheVariants as loads
 use Rattle.outside.specs.Keeper.{LoadsAs}
+use Rattle.outside.specs.Files.{Files, file_at}
+use Rattle.model.specs.File.{file_limit}
+use Rattle.outline_cmd.specs.declared.status.Status.TheVariants as s
 use Rattle.outline_cmd.specs.Input.{IsFrontOf}
+use Rattle.outline_cmd.specs.Meaning.{input_bytes}
 
 pub front_is_whole : (held : Option (List ℕ)) (front into : List ℕ) (at : ℕ) → at ≡ length front → 0 < length into → IsFrontOf held front → LoadsAs held at into (loads.Got 0) → held ≡ Some front
 front_is_whole None front into at e room f got = absurd got
@@ -37,3 +42,17 @@ no_front (Some file) front e = (file, sym (ap (λ (r : List ℕ). r ++ file) e))
 pub front_too_long : (held : Option (List ℕ)) (front : List ℕ) (limit : ℕ) → limit < length front → IsFrontOf held front → (file : List ℕ) × (held ≡ Some file) × (limit < length file)
 front_too_long None front limit long f = absurd (omega (arith, ap length f))
 front_too_long (Some file) front limit long f = (file, refl, omega (arith, ap length f.1, length-append front f.0))
+
+-- ---- what is meant
+
+pub load_failed : (files : Files) (word : ℕ) (name : List ℕ) → input_bytes files word name (Err (s.ReadFault word))
+load_failed files word name = (Err (s.ReadFault word), inl refl, refl)
+
+pub file_missing : (files : Files) (word : ℕ) (name : List ℕ) → file_at files name ≡ None → input_bytes files word name (Err (s.Missing word))
+file_missing files word name none = (Err (s.Missing word), inr (refl, none), refl)
+
+pub file_brought : (files : Files) (word : ℕ) (name bytes : List ℕ) → file_at files name ≡ Some bytes → length bytes ≤ file_limit → input_bytes files word name (Ok bytes)
+file_brought files word name bytes held short = (Ok bytes, held, rw (le-leb (length bytes) file_limit short) refl)
+
+pub file_too_long : (files : Files) (word : ℕ) (name bytes : List ℕ) → file_at files name ≡ Some bytes → file_limit < length bytes → input_bytes files word name (Err (s.TooLarge word (file_limit + 1)))
+file_too_long files word name bytes held long = (Ok bytes, held, rw (lt-leb (length bytes) file_limit long) refl)

@@ -1,11 +1,14 @@
 pub mod Status
-pub mod Words
-pub mod Orders
 pub mod Meaning
+pub mod Ending
 pub mod Run
+pub mod Ledgers
+pub mod Stages
 pub mod Input
-pub mod Values
 pub mod Front
 pub mod Document
 pub mod Grammar
 pub mod SmallFile
+pub mod Represents
+pub mod Edits
+pub mod Empty

@@ -2,6 +2,14 @@
 #![tactic(auto)]
 
 #[cfg(test)]
+mod answer_tests;
+#[cfg(test)]
+mod fault_tests;
+#[cfg(test)]
 mod files;
 #[cfg(test)]
-mod tests;
+mod limit_tests;
+#[cfg(test)]
+mod runs;
+#[cfg(test)]
+mod status_tests;

@@ -1,3 +1,0 @@
-pub mod RegisterLaws
-pub mod Rising
-pub mod LastPut

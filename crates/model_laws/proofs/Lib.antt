@@ -1,0 +1,10 @@
+pub mod ListLaws
+pub mod ChangeLaws
+pub mod TrimLaws
+pub mod LedgerLaws
+pub mod SmallLaws
+pub mod SizeLaws
+pub mod MadeLaws
+pub mod RegisterLaws
+pub mod Rising
+pub mod LastPut

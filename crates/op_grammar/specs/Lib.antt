@@ -1,0 +1,4 @@
+pub mod Values
+pub mod Operations
+pub mod Changes
+pub mod Writing

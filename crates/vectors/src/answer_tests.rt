@@ -1,0 +1,204 @@
+use crate::files::{
+    DOCUMENT, KEY_UNSET, LONGER_COUNT, MADE_BY_SECOND, NO_CHANGE, NOBODY, ONE_KEY, ONE_KEY_TEXT,
+    SECOND, SECOND_WITH_KEY,
+};
+use crate::runs::{NO_FAULTS, Step, take, take_with};
+use outline_cmd::{EditFault, MemberFault, Status};
+use outside::MemKeeper;
+use std::test::*;
+
+const PUT: &[&str] = &["put", "a", "root", "a", "true"];
+
+/// From the founding on, each with what it prints and the file after it.
+const LIFE: &[(&[&str], &str, &[u8])] = &[
+    (&["found", DOCUMENT, "2", "a"], "holds 0,1\n", NO_CHANGE),
+    (&["show", "a"], "node 0 root\n", NO_CHANGE),
+    (PUT, "made 0 1 1\n", ONE_KEY),
+    (&["show", "a"], ONE_KEY_TEXT, ONE_KEY),
+    (&["unset", "a", "root", "a"], "made 0 2 2\n", KEY_UNSET),
+    (&["show", "a"], "node 0 root\n", KEY_UNSET),
+    (&["found", DOCUMENT, "1", "b"], "holds 0\n", KEY_UNSET),
+    (&["put", "b", "root", "k", "1"], "made 0 1 1\n", KEY_UNSET),
+    (&["put", "b", "root", "k", "2"], "made 0 2 2\n", KEY_UNSET),
+    (&["put", "b", "root", "k", "3"], "made 0 3 3\n", KEY_UNSET),
+    (&["show", "b"], "node 0 root\nkey \"k\" 3\n", KEY_UNSET),
+];
+
+#[test]
+fn founds_puts_and_unsets(rt: HostRuntime) -> Result<(), Fail> {
+    let alloc = rt.alloc();
+    let mut keeper = MemKeeper::new(alloc, &[], &[])?;
+    for &(line, text, after) in LIFE {
+        let status = Status::Done;
+        let step = Step {
+            line,
+            status,
+            text,
+            after,
+        };
+        let went = take(alloc, &mut keeper, &step)?;
+        assert_eq!(rt; went, (status, true, true), "{text}");
+    }
+    Ok(())
+}
+
+const NOT_SMALL: Status = Status::NotBuilt { word: 1 };
+
+/// Of each file what a command does with it: the file before and after, and what is printed.
+const FILES: &[(&[u8], &[&str], Status, &str, &[u8])] = &[
+    (LONGER_COUNT, &["show", "a"], NOT_SMALL, "", LONGER_COUNT),
+    (b"", &["show", "a"], NOT_SMALL, "", b""),
+    (SECOND, PUT, Status::Done, "made 1 1 1\n", SECOND_WITH_KEY),
+    (
+        MADE_BY_SECOND,
+        &["show", "a"],
+        Status::Done,
+        ONE_KEY_TEXT,
+        MADE_BY_SECOND,
+    ),
+    (MADE_BY_SECOND, PUT, NOT_SMALL, "", MADE_BY_SECOND),
+    (
+        NOBODY,
+        &["show", "a"],
+        Status::Done,
+        "node 0 root\n",
+        NOBODY,
+    ),
+    (
+        NOBODY,
+        &["put", "a", "root", "", "1"],
+        Status::Member(MemberFault::Nobody),
+        "",
+        NOBODY,
+    ),
+];
+
+#[test]
+fn answers_files(rt: HostRuntime) -> Result<(), Fail> {
+    for &(before, line, status, text, after) in FILES {
+        let step = Step {
+            line,
+            status,
+            text,
+            after,
+        };
+        let went = take_with(rt.alloc(), before, &NO_FAULTS, &step)?;
+        assert_eq!(rt; went, (status, true, true), "{line:?}");
+    }
+    Ok(())
+}
+
+const EMPTY: Status = Status::Edit {
+    fault: EditFault::Empty,
+    word: 3,
+};
+
+/// Words that are no command, and the first wrong one.
+const WRONG: &[(&[&str], u32)] = &[
+    (&[], 0),
+    (&["frob"], 0),
+    (&["--help"], 0),
+    (&["show"], 1),
+    (&["show", ".a"], 1),
+    (&["show", "a/b", "c"], 1),
+    (&["show", "a", ""], 2),
+    (&["put", "a", "root"], 3),
+    (&["put", "a", "root", "k"], 4),
+    (&["put", "a", "root", "k", "1", "2"], 5),
+    (&["put", "a", "1.0.0", "k", "one"], 4),
+    (&["put", "a", "root", "k", "9223372036854775808"], 4),
+    (&["put", "a", "root", "k", "-9223372036854775809"], 4),
+    (&["unset", "a", "root", "k", "1"], 4),
+    (&["found", "000102030405060708090a0b0c0d0e0", "1", "c"], 1),
+    (&["found", "000102030405060708090a0b0c0d0e0f0", "1", "c"], 1),
+    (&["found", "000102030405060708090a0b0c0d0e0F", "1", "c"], 1),
+    (&["found", DOCUMENT, "0", "c"], 2),
+    (&["found", DOCUMENT, "33", "c"], 2),
+    (&["found", DOCUMENT, "01", "c"], 2),
+];
+
+#[test]
+fn names_the_first_wrong_word(rt: HostRuntime) -> Result<(), Fail> {
+    for &(line, word) in WRONG {
+        let status = Status::Words { line: 0, word };
+        let step = Step {
+            line,
+            status,
+            text: "",
+            after: ONE_KEY,
+        };
+        let went = take_with(rt.alloc(), ONE_KEY, &NO_FAULTS, &step)?;
+        assert_eq!(rt; went, (status, true, true), "{line:?}");
+    }
+    Ok(())
+}
+
+/// Over the file of one key.
+const REFUSALS: &[(&[&str], Status)] = &[
+    (&["trim", "a"], Status::NotBuilt { word: 0 }),
+    (&["trim"], Status::NotBuilt { word: 0 }),
+    (&["found", DOCUMENT, "2", "a"], Status::Exists { word: 3 }),
+    (&["show", "q"], Status::Missing { word: 1 }),
+    (&["put", "q", "root", "", "1"], Status::Missing { word: 1 }),
+    (&["put", "a", "root", "", "1"], EMPTY),
+    (&["unset", "a", "root", ""], EMPTY),
+    (
+        &["put", "a", "1.0.0", "k", "1"],
+        Status::NotBuilt { word: 2 },
+    ),
+    (&["unset", "q", "trash", "k"], Status::NotBuilt { word: 2 }),
+];
+
+#[test]
+fn refusals_leave_the_file(rt: HostRuntime) -> Result<(), Fail> {
+    for &(line, status) in REFUSALS {
+        let step = Step {
+            line,
+            status,
+            text: "",
+            after: ONE_KEY,
+        };
+        let went = take_with(rt.alloc(), ONE_KEY, &NO_FAULTS, &step)?;
+        assert_eq!(rt; went, (status, true, true), "{line:?}");
+    }
+    Ok(())
+}
+
+/// Words at the ends of what they may say, which are taken.
+const ENDS: &[(&[&str], &str)] = &[
+    (
+        &["put", "a", "root", "k", "9223372036854775807"],
+        "made 0 2 2\n",
+    ),
+    (
+        &["put", "a", "root", "k", "-9223372036854775808"],
+        "made 0 3 3\n",
+    ),
+    (
+        &["show", "a"],
+        "node 0 root\nkey \"a\" true\nkey \"k\" -9223372036854775808\n",
+    ),
+    (&["found", DOCUMENT, "1", "b"], "holds 0\n"),
+    (
+        &["found", DOCUMENT, "32", "c"],
+        "holds 0,1,2,3,4,5,6,7,8,9,10,11,12,13,14,15,16,17,18,19,20,21,22,23,24,25,26,27,28,29,30,31\n",
+    ),
+];
+
+#[test]
+fn takes_the_ends(rt: HostRuntime) -> Result<(), Fail> {
+    let alloc = rt.alloc();
+    let mut keeper = MemKeeper::new(alloc, &[], &[])?;
+    keeper.put_file("a", ONE_KEY)?;
+    for &(line, text) in ENDS {
+        let step = Step {
+            line,
+            status: Status::Done,
+            text,
+            after: b"",
+        };
+        let (status, printed, _) = take(alloc, &mut keeper, &step)?;
+        assert_eq!(rt; (status, printed), (Status::Done, true), "{text}");
+    }
+    Ok(())
+}
