@@ -7,24 +7,25 @@ use std::alloc::{AllocError, Global};
 use std::test::Fail;
 use version_vector::Vector;
 
-/// The head of the first change of the first of two members, with one operation.
-fn first_head(alloc: Global) -> Head {
-    Head {
-        member: 0,
-        number: 1,
-        time: 1,
-        causes: Vector::zero(alloc, 2),
-        count: 1,
-        width: 1,
-    }
-}
+/// Member, number and time; how many changes of members 0 and 1 were known; how many operations and ids there are.
+type Fields = ((u8, u32, u64), (u32, u32), (u32, u32));
 
-/// Counts of two members.
-fn counts(alloc: Global, first: u32, second: u32) -> Vector {
-    let mut counts = Vector::zero(alloc, 2);
-    counts.raise(0, first);
-    counts.raise(1, second);
-    counts
+/// The first change of the first of two members, with one operation.
+const FIRST: Fields = ((0, 1, 1), (0, 0), (1, 1));
+
+fn head_of(alloc: Global, fields: Fields) -> Head {
+    let ((member, number, time), (first, second), (count, width)) = fields;
+    let mut causes = Vector::zero(alloc, 2);
+    causes.raise(0, first);
+    causes.raise(1, second);
+    Head {
+        member,
+        number,
+        time,
+        causes,
+        count,
+        width,
+    }
 }
 
 fn put<'a>(node: OpId, key: &'a str, value: Value<'a>) -> OpRef<'a>
@@ -46,7 +47,7 @@ fn a_change_is_appended(rt: HostRuntime) -> Result<(), Fail> {
     let mut plan = OpPlan::new(rt.alloc());
     plan.push(put(ROOT, "a", Value::Bool(true)))?;
     let mut out = b"\x01\x02".to_vec(rt.alloc())?;
-    let written = write_change(&mut out, &first_head(rt.alloc()), &plan);
+    let written = write_change(&mut out, &head_of(rt.alloc(), FIRST), &plan);
     assert_eq!(rt; written, Ok(()));
     let bytes =
         b"\x01\x02\x87\x00\x01\x01\x82\x00\x00\x01\x01\x49\x84\x02\x83\x00\x00\x00\x61\x61\xf5";
@@ -54,195 +55,75 @@ fn a_change_is_appended(rt: HostRuntime) -> Result<(), Fail> {
     Ok(())
 }
 
+/// Heads and the first rule that each breaks; the last five break two.
+const BROKEN: &[(Fields, Rule)] = &[
+    (((2, 1, 1), (0, 0), (1, 1)), Rule::G2),
+    (((0, 0, 1), (0, 0), (1, 1)), Rule::G3),
+    (((0, 1, 0), (0, 0), (1, 1)), Rule::G4),
+    (((0, 1, MAX_TIME + 1), (0, 0), (1, 1)), Rule::G4),
+    (((0, 2, 1), (0, 0), (1, 1)), Rule::G5),
+    (((0, 1, 1), (1, 0), (1, 1)), Rule::G5),
+    (((0, 1, 1), (0, 0), (0, 1)), Rule::G6),
+    (((0, 1, 1), (0, 0), (2, 1)), Rule::G6),
+    (((0, 1, 1), (0, 0), (1, 0)), Rule::G7),
+    (((0, 1, 1), (0, 0), (1, 2)), Rule::G7),
+    (((2, 0, 1), (0, 0), (1, 1)), Rule::G2),
+    (((0, 0, 0), (0, 0), (1, 1)), Rule::G3),
+    (((0, 2, 0), (0, 0), (1, 1)), Rule::G4),
+    (((0, 2, 1), (0, 0), (0, 1)), Rule::G5),
+    (((0, 1, 1), (0, 0), (2, 2)), Rule::G6),
+];
+
 #[test]
 fn the_first_broken_rule_is_named(rt: HostRuntime) -> Result<(), Fail> {
     let alloc = rt.alloc();
-    let cases = [
-        (
-            Head {
-                member: 2,
-                ..first_head(alloc)
-            },
-            Rule::G2,
-        ),
-        (
-            Head {
-                number: 0,
-                ..first_head(alloc)
-            },
-            Rule::G3,
-        ),
-        (
-            Head {
-                time: 0,
-                ..first_head(alloc)
-            },
-            Rule::G4,
-        ),
-        (
-            Head {
-                time: MAX_TIME + 1,
-                ..first_head(alloc)
-            },
-            Rule::G4,
-        ),
-        (
-            Head {
-                number: 2,
-                ..first_head(alloc)
-            },
-            Rule::G5,
-        ),
-        (
-            Head {
-                causes: counts(alloc, 1, 0),
-                ..first_head(alloc)
-            },
-            Rule::G5,
-        ),
-        (
-            Head {
-                count: 0,
-                ..first_head(alloc)
-            },
-            Rule::G6,
-        ),
-        (
-            Head {
-                count: 2,
-                ..first_head(alloc)
-            },
-            Rule::G6,
-        ),
-        (
-            Head {
-                width: 0,
-                ..first_head(alloc)
-            },
-            Rule::G7,
-        ),
-        (
-            Head {
-                width: 2,
-                ..first_head(alloc)
-            },
-            Rule::G7,
-        ),
-        // Two are broken.
-        (
-            Head {
-                member: 2,
-                number: 0,
-                ..first_head(alloc)
-            },
-            Rule::G2,
-        ),
-        (
-            Head {
-                number: 0,
-                time: 0,
-                ..first_head(alloc)
-            },
-            Rule::G3,
-        ),
-        (
-            Head {
-                number: 2,
-                time: 0,
-                ..first_head(alloc)
-            },
-            Rule::G4,
-        ),
-        (
-            Head {
-                number: 2,
-                count: 0,
-                ..first_head(alloc)
-            },
-            Rule::G5,
-        ),
-        (
-            Head {
-                count: 2,
-                width: 2,
-                ..first_head(alloc)
-            },
-            Rule::G6,
-        ),
-    ];
     let mut plan = OpPlan::new(alloc);
     plan.push(put(ROOT, "a", Value::Null))?;
-    for (head, rule) in cases {
+    for &(fields, rule) in BROKEN {
         let mut out = b"\x01\x02".to_vec(alloc)?;
-        let written = write_change(&mut out, &head, &plan);
-        assert_eq!(rt; written, Err(WriteFault::Rule(rule)), "{head:?}");
+        let written = write_change(&mut out, &head_of(alloc, fields), &plan);
+        assert_eq!(rt; written, Err(WriteFault::Rule(rule)), "{fields:?}");
         assert_eq!(rt; out.as_slice(), b"\x01\x02".as_slice());
     }
     Ok(())
 }
 
+/// Time, member and index of a node, how many bytes a key and a value have, and whether a put of them keeps the rules.
+const PUTS: &[((u64, u8, u32), usize, usize, bool)] = &[
+    ((0, 0, 1), 1, 0, true),
+    ((MAX_TIME, 1, 65_535), 256, 65_536, true),
+    ((MAX_TIME + 1, 1, 0), 1, 0, false),
+    ((1, 2, 0), 1, 0, false),
+    ((1, 1, 65_536), 1, 0, false),
+    ((0, 0, 2), 1, 0, false),
+    ((0, 1, 0), 1, 0, false),
+    ((1, 1, 0), 0, 0, false),
+    ((1, 1, 0), 257, 0, false),
+    ((1, 1, 0), 256, 65_537, false),
+];
+
 #[test]
-fn operations_have_bounds(rt: HostRuntime) -> Result<(), Fail> {
+fn puts_have_bounds(rt: HostRuntime) -> Result<(), Fail> {
     let alloc = rt.alloc();
-    let node = OpId {
-        time: MAX_TIME,
-        member: 1,
-        index: 65_535,
-    };
-    let key = text_of_len(alloc, 256)?;
-    let longer_key = text_of_len(alloc, 257)?;
-    let text = text_of_len(alloc, 65_536)?;
-    let longer_text = text_of_len(alloc, 65_537)?;
-    let cases = [
-        (put(TRASH, "a", Value::Int(i64::MIN)), true),
-        (put(node, key.as_str(), Value::Text(text.as_str())), true),
-        (put(node, key.as_str(), Value::Bytes(text.as_bytes())), true),
-        (
-            put(
-                OpId {
-                    time: MAX_TIME + 1,
-                    ..node
-                },
-                "a",
-                Value::Null,
-            ),
-            false,
-        ),
-        (put(OpId { member: 2, ..node }, "a", Value::Null), false),
-        (
-            put(
-                OpId {
-                    index: 65_536,
-                    ..node
-                },
-                "a",
-                Value::Null,
-            ),
-            false,
-        ),
-        (put(OpId { index: 2, ..ROOT }, "a", Value::Null), false),
-        (put(OpId { member: 1, ..ROOT }, "a", Value::Null), false),
-        (put(node, "", Value::Null), false),
-        (put(node, longer_key.as_str(), Value::Null), false),
-        (
-            put(node, key.as_str(), Value::Text(longer_text.as_str())),
-            false,
-        ),
-        (
-            put(node, key.as_str(), Value::Bytes(longer_text.as_bytes())),
-            false,
-        ),
-    ];
-    for (op, fits) in cases {
-        let mut plan = OpPlan::new(alloc);
-        plan.push(op)?;
-        let written = write_change(&mut Vec::new(alloc), &first_head(alloc), &plan);
-        let fault = if fits {
-            Ok(())
-        } else {
-            Err(WriteFault::Rule(Rule::G7))
+    for &((time, member, index), key_len, value_len, keeps) in PUTS {
+        let node = OpId {
+            time,
+            member,
+            index,
         };
-        assert_eq!(rt; written, fault, "{op:?}");
+        let key = text_of_len(alloc, key_len)?;
+        let value = text_of_len(alloc, value_len)?;
+        for value in [Value::Text(value.as_str()), Value::Bytes(value.as_bytes())] {
+            let mut plan = OpPlan::new(alloc);
+            plan.push(put(node, key.as_str(), value))?;
+            let written = write_change(&mut Vec::new(alloc), &head_of(alloc, FIRST), &plan);
+            let broken = Err(WriteFault::Rule(Rule::G7));
+            assert_eq!(rt;
+                written,
+                if keeps { Ok(()) } else { broken },
+                "{node:?} {key_len} {value_len}"
+            );
+        }
     }
     Ok(())
 }
