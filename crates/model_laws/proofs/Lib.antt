@@ -8,16 +8,4 @@ pub mod NodeLaws
 pub mod Rising
 pub mod ChangeLaws
 pub mod TrimLaws
-pub mod AddLaws
-pub mod StableLaws
-pub mod ReferLaws
-pub mod SoundLaws
-pub mod ReadLaws
-pub mod DocumentLaws
-pub mod SettleLaws
-pub mod ChangeArrival
-pub mod WorldLaws
-pub mod AdmitLaws
-pub mod StoreLaws
-pub mod DeliverLaws
 pub mod KeptTables
