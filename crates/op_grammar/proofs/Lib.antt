@@ -1,3 +1,4 @@
-pub mod RuleLaws
+pub mod FieldLaws
+pub mod KindLaws
 pub mod OperationLaws
-pub mod SpellingLaws
+pub mod TextLaws

@@ -1,4 +1,4 @@
 pub mod Values
+pub mod Fields
 pub mod Operations
-pub mod Changes
-pub mod Writing
+pub mod Rules

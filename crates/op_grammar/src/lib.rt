@@ -1,17 +1,20 @@
-//! Operations and changes as they stand in files: the types, and the writer of a change. Stands on `model`
+//! Operations and changes as they stand in files: their types, their reads and their writers. Stands on `model`
 //! for what they mean, on `cbor_det` for their spelling, and on `op_ids` and `version_vector`.
 #![tactic(auto)]
 
 mod change;
-mod checks;
+mod fields;
+mod kinds;
 mod operation;
+mod reading;
 mod rule;
 mod value;
-mod writing;
 
-pub use change::{Head, WriteFault, write_change};
+pub use change::{Head, WriteFault};
+pub use fields::{read_id, read_side, read_value};
 pub use op_ids::Side;
 pub use operation::{OpPlan, OpRef, width_of};
+pub use reading::{OpFault, read_op};
 pub use rule::Rule;
 pub use value::{OwnValue, Value};
 

@@ -1,9 +1,11 @@
 //! The operations of changes.
 
-ghost use Rattle.std.specs.Prelude.{◌≡◌, ◌++◌, ◌∷◌, [], ◌<◌, ◌^◌, length, OnOk, OnErr, slice_get, Some, IsSome};
+ghost use Rattle.std.specs.Prelude.{◌≡◌, ◌++◌, ◌∷◌, [], ◌<◌, ◌-◌, ◌^◌, length, min, OnOk, OnErr, slice_get, Some};
+ghost use Rattle.std.specs.List.{AllByRecursion};
+ghost use Rattle.std.specs.Char.{IsScalar};
 ghost use Rattle.std.specs.Str.{chars};
-ghost use Rattle.op_grammar.specs.Operations.{ids_of, operation_of};
-ghost use Rattle.op_grammar.specs.Writing.{put_of};
+ghost use Rattle.model.specs.Operation as model;
+ghost use Rattle.op_grammar.specs.Operations.{operation_of};
 
 use crate::value::Value;
 use op_ids::{OpId, Side};
@@ -73,41 +75,20 @@ pub enum OpRef<'a> {
     },
 }
 
-/// A put, of a value under a key of a node.
-#[derive(Clone, Copy)]
-pub(crate) struct Put<'a> {
-    pub node: OpId,
-    pub key: &'a str,
-    pub value: Value<'a>,
-}
-
-impl<'a> OpRef<'a> {
-    /// The put that it is.
-    pub(crate) fn put(&self) -> Put<'a>
-        requires { IsSome (operation_of self.now) }
-        ensures { operation_of self.now ≡ Some (put_of result) }
-    {
-        match *self {
-            OpRef::PutKey { node, key, value } => Put { node, key, value },
-            _ => unreachable!(),
-        }
-    }
-}
-
-/// How many ids an operation takes: as many as it types characters, and else one.
+/// How many ids an operation takes: as many as it types characters, and else one. 2^32 - 1 stands for any greater number.
 pub fn width_of(op: &OpRef<'_>) -> u32
-    requires { ids_of op.now < 2 ^ 32 }
-    ensures { result ≡ ids_of op.now }
+    ensures { result ≡ min (model.width_of (operation_of op.now)) (2 ^ 32 - 1) }
 {
     match op {
-        OpRef::TypeText { text, .. } => char_count(text) as u32,
+        OpRef::TypeText { text, .. } => u32::try_from(char_count(text)).unwrap_or(u32::MAX),
         _ => 1,
     }
 }
 
 /// How many characters a text has.
-fn char_count(text: &str) -> usize
-    ensures { result ≡ length (chars text.now) }
+pub(crate) fn char_count(text: &str) -> usize
+    ensures value { result ≡ length (chars text.now) }
+    ensures fits { AllByRecursion IsScalar (chars text.now) }
 {
     text.chars().count()
 }

@@ -1,0 +1,23 @@
+use Rattle.std.proofs.Common.{[], ◌∷◌, ◌++◌, refl}
+use Rattle.std.specs.Prelude.{Some, None}
+use Rattle.op_ids.specs.declared.OpId.{OpId}
+use Rattle.op_grammar.specs.declared.value.Value.{Value}
+use Rattle.cbor_det.specs.Unread.{unread}
+use Rattle.model.specs.Value as model
+use Rattle.model.specs.Value.{id_item, IsOpId, value_item, IsValue}
+use Rattle.model.specs.Operation.{set_item}
+use Rattle.op_grammar.specs.declared.operation.OpRef.TheVariants as ops
+use Rattle.op_grammar.specs.Values.{value_of}
+use Rattle.op_grammar.specs.Operations.{two_ids, AreTwoIds}
+use Rattle.op_grammar.proofs.FieldLaws.{one, both_read, second_stops, first_stops}
+use Rattle.op_grammar.proofs.KindLaws.{kind_read, kind_stops, set_item_back, set_item_forth}
+use Rattle.op_grammar.proofs.kinds.read_set_item.Goals as goal
+
+pub returns-in_err-node : goal.returns-in_err-node
+returns-in_err-node c = kind_stops c.args.n 7 3 (λ (p : (OpId × OpId) × Value). ((λ (p : OpId × OpId). p) p.0, value_of p.1)) (λ (y : (OpId × OpId) × model.Value). two_ids y.0 ++ (λ (v : model.Value). value_item v ∷ []) y.1) (λ (y : (OpId × OpId) × model.Value). (AreTwoIds c.args.n) y.0 × IsValue y.1) (λ _. refl) (unread c.args.cursor.now) (unread c.read_ids.new.cursor) (set_item_back c.args.n) c.from_residual.result (cc (c.from_residual.ensures)) (first_stops (λ (p : OpId × OpId). p) two_ids (AreTwoIds c.args.n) 2 (λ _. refl) value_of (λ (v : model.Value). value_item v ∷ []) IsValue 1 (unread c.args.cursor.now) (unread c.read_ids.new.cursor) (unread c.read_ids.new.cursor) None refl c.in_err-node.ensures)
+
+pub returns-in_err-value : goal.returns-in_err-value
+returns-in_err-value c = kind_stops c.args.n 7 3 (λ (p : (OpId × OpId) × Value). ((λ (p : OpId × OpId). p) p.0, value_of p.1)) (λ (y : (OpId × OpId) × model.Value). two_ids y.0 ++ (λ (v : model.Value). value_item v ∷ []) y.1) (λ (y : (OpId × OpId) × model.Value). (AreTwoIds c.args.n) y.0 × IsValue y.1) (λ _. refl) (unread c.args.cursor.now) (unread c.read_value.new.cursor) (set_item_back c.args.n) c.from_residual-in_err-value.result (cc (c.from_residual-in_err-value.ensures)) (second_stops (λ (p : OpId × OpId). p) two_ids (AreTwoIds c.args.n) 2 (λ _. refl) value_of (λ (v : model.Value). value_item v ∷ []) IsValue 1 (unread c.args.cursor.now) (unread c.read_ids.new.cursor) (unread c.read_value.new.cursor) (c.in_ok-node.node, c.in_ok-node.element) None refl c.in_ok-node.ensures (one value_of value_item IsValue (unread c.read_ids.new.cursor) (unread c.read_value.new.cursor) None c.in_err-value.ensures.item))
+
+pub returns : goal.returns
+returns c = kind_read c.args.n 7 3 (λ (p : (OpId × OpId) × Value). ((λ (p : OpId × OpId). p) p.0, value_of p.1)) (λ (y : (OpId × OpId) × model.Value). two_ids y.0 ++ (λ (v : model.Value). value_item v ∷ []) y.1) (λ (y : (OpId × OpId) × model.Value). (AreTwoIds c.args.n) y.0 × IsValue y.1) (λ _. refl) (unread c.args.cursor.now) (unread c.read_value.new.cursor) (λ (y : (OpId × OpId) × model.Value). set_item y.0.0 y.0.1 y.1) (set_item_forth c.args.n) ((c.in_ok-node.node, c.in_ok-node.element), c.in_ok-value.value) (ops.SetItem c.in_ok-node.node c.in_ok-node.element c.in_ok-value.value) refl (both_read (λ (p : OpId × OpId). p) two_ids (AreTwoIds c.args.n) 2 (λ _. refl) value_of (λ (v : model.Value). value_item v ∷ []) IsValue 1 (unread c.args.cursor.now) (unread c.read_ids.new.cursor) (unread c.read_value.new.cursor) (c.in_ok-node.node, c.in_ok-node.element) c.in_ok-value.value c.in_ok-node.ensures (one value_of value_item IsValue (unread c.read_ids.new.cursor) (unread c.read_value.new.cursor) (Some c.in_ok-value.value) c.in_ok-value.ensures.item))
