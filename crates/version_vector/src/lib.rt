@@ -1,10 +1,14 @@
-//! Version vectors: for each member of a document, how many of its changes are known. Stands on the kit's `smallvec`.
+//! Version vectors: for each member of a document, how many of its changes are known. Stands on `op_ids`, whose numbers
+//! in words it reads, and on the kit's `smallvec`.
 #![tactic(auto)]
 
-ghost use Rattle.std.specs.Prelude.{◌≡◌, ◌<◌, ◌≤◌, length, max, replicate, slice_index, slice_set};
+ghost use Rattle.std.specs.Prelude.{◌≡◌, ◌<◌, ◌≤◌, ◌↔◌, ℕ, List, length, max, replicate, slice_index, slice_set, IfSome, IfOk, IsTrue};
+ghost use Rattle.std.specs.String.{string_bytes};
+ghost use Rattle.version_vector.specs.Counts.{IsCounts, counts_word, AtLeast, least_counts};
 
+use op_ids::parse_number;
 use smallvec::SmallVec;
-use std::alloc::Global;
+use std::alloc::{AllocError, Global};
 use std::marker::Model;
 
 // The most members that a document can have.
@@ -68,6 +72,69 @@ impl Vector {
     {
         let held = &mut self.counts[usize::from(member)];
         *held = count.max(*held);
+    }
+
+    /// Another vector with the same counts.
+    pub fn copy(&self) -> Vector
+        ensures { result ≡ self.now }
+    {
+        let counts = SmallVec::from_slice(*self.counts.allocator(), self.counts.as_slice());
+        Vector {
+            counts: counts.unwrap(),
+        }
+    }
+
+    /// Whether no count is below the other vector's.
+    pub fn at_least(&self, other: &Vector) -> bool
+        requires { length self.now ≡ length other.now }
+        ensures { IsTrue result ↔ AtLeast self.now other.now }
+    {
+        self.counts
+            .iter()
+            .zip(other.counts.iter())
+            .all(|(mine, theirs)| *mine >= *theirs)
+    }
+
+    /// Lowers each count to the other vector's, or leaves it where it is less.
+    pub fn least_of(&mut self, other: &Vector)
+        requires { length self.old ≡ length other.now }
+        ensures { self.new ≡ least_counts self.old other.now }
+    {
+        for (member, theirs) in other.counts.iter().enumerate() {
+            let mine = &mut self.counts[member];
+            *mine = (*theirs).min(*mine);
+        }
+    }
+
+    /// The vector that the word spells: 1 to 32 counts in decimal, without signs or needless zeros in front, with a
+    /// comma between each two. None for any other word. The allocator is kept and never asked.
+    pub fn parse(alloc: Global, word: &str) -> Option<Vector>
+        ensures found { IfSome result (λ counts. IsCounts counts × (word.now ≡ counts_word counts)) }
+        ensures only { (counts : List ℕ) → IsCounts counts → word.now ≡ counts_word counts
+            → result ≡ Some counts }
+    {
+        let mut counts = SmallVec::new(alloc);
+        for number in word.split(',') {
+            if counts.len() == MAX_MEMBERS {
+                return None;
+            }
+            counts.push_reserved(parse_number(number, u64::from(u32::MAX))? as u32);
+        }
+        Some(Vector { counts })
+    }
+
+    /// The word that spells the vector. Fails only where memory runs out.
+    pub fn text(&self) -> Result<String, AllocError>
+        ensures { IfOk result (λ text. string_bytes text ≡ counts_word self.now) }
+    {
+        let mut text = String::new(*self.counts.allocator());
+        for (member, count) in self.counts.iter().enumerate() {
+            if member > 0 {
+                text.push(',')?;
+            }
+            write!(text, "{count}")?;
+        }
+        Ok(text)
     }
 }
 
