@@ -2,7 +2,8 @@
 use Rattle.std.specs.Prelude.{◌≡◌, ℕ, ◌<◌, ◌+◌, Bool, true, false, cond, Option, Some, None, List, [], ◌∷◌, ◌++◌, length, map, take, drop, filter_map, refl}
 use Rattle.std.specs.List.{cons_option, list_any}
 use Rattle.std.specs.Map.{lookup}
-use Rattle.std.specs.Prelude.{is_some, ◌||◌, ◌⊎◌}
+use Rattle.std.specs.Prelude.{is_some, ◌||◌, ◌⊎◌, ◌&&◌}
+use Rattle.std.proofs.Common.{T}
 use Rattle.std.specs.FinSet.{FinSet, contains, contains-from_list}
 use Rattle.std.proofs.Common.{get_or, inl, inr}
 use Rattle.std.proofs.lemmas.List.{map-append, take_more, drop_more, take-append-drop}
@@ -11,12 +12,13 @@ use Rattle.std.specs.Map.{keys_of}
 use Rattle.std.specs.List.{AllByRecursion}
 use Rattle.std.specs.List.Sorted.{IsStrictlySortedBy}
 use Rattle.std.specs.Ordering.{eq_by_cmp, is_eq}
-use Rattle.std.specs.FinMap.{FinMap, get, insert, remove, empty, entries, from_entries, from_entries_push, get-empty, same_map, find, get-entries}
+use Rattle.std.specs.FinMap.{FinMap, get, insert, remove, empty, entries, from_entries, from_entries_push, get-empty, same_map, find, get-entries, get-from_entries, entries_sorted, is_sorted}
+use Rattle.std.specs.FinMap.Entries.{below_all}
 use Rattle.std.specs.FinSet as set
 use Rattle.std.specs.declared.cmp.Ordering.TheVariants.{Less, Greater}
 use Rattle.op_ids.specs.declared.OpId.{OpId}
 use Rattle.op_ids.specs.Order.{id_cmp, id_eq}
-use Rattle.op_ids.proofs.OrderLaws.{eq_by_cmp-id, id_cmp_total, id_cmp_exact}
+use Rattle.op_ids.proofs.OrderLaws.{eq_by_cmp-id, id_cmp_total, id_cmp_exact, less_from_is_lt}
 use Rattle.model.specs.State.{Place}
 use Rattle.model_laws.specs.Tree.{Places}
 use Rattle.model_laws.proofs.KeptTables.{entries_are, get_is_lookup, none_among, below_next}
@@ -26,6 +28,7 @@ use Rattle.model.specs.State.{is_fixed}
 use Rattle.model_laws.specs.Tree.{IsTree}
 use Rattle.model_laws.proofs.TreeLaws.{bool_cases}
 use Rattle.tree_move.specs.Parents.{Nodes, IsTreeOfAdmitted, Slot, with_place, places_of, place_if, slot_entry, slot_row, slot_child, row_of, child_of, entry_of}
+use Rattle.tree_move.specs.Moves.{RowsComeBack}
 use Rattle.tree_move.proofs.PlaceLaws.{with_place_same, tied}
 
 -- the entries of the slots with a place
@@ -127,3 +130,41 @@ rows_make_tree k rows p a t =
       below = λ q e. there_or k.places tree q (sym (same q) ∙ e);
       placed = λ q e. same q ∙ e;
     }
+
+-- ---- rows of places
+
+first : (a b : Bool) → (a && b) ≡ true → a ≡ true
+first true b e = refl
+first false b e = e
+
+second : (a b : Bool) → (a && b) ≡ true → b ≡ true
+second true b e = e
+second false b e = absurd (let c : false ≡ true = e in cc)
+
+true_from_T : (b : Bool) → T b → b ≡ true
+true_from_T true h = refl
+true_from_T false h = elim h [ ]
+
+all_less : (k : OpId) (es : List (OpId × Place)) → below_all id_cmp k es ≡ true → AllByRecursion (λ y. id_cmp k y ≡ Less) (keys_of es)
+all_less k [] h = tt
+all_less k (e ∷ es) h = (less_from_is_lt _ (first _ _ h), all_less k es (second _ _ h))
+
+rising_from_sorted : (es : List (OpId × Place)) → is_sorted id_cmp es ≡ true → IsStrictlySortedBy id_cmp (keys_of es)
+unfolding IsStrictlySortedBy
+rising_from_sorted [] h = tt
+rising_from_sorted (e ∷ es) h = (all_less e.0 es (first _ _ h), rising_from_sorted es (second _ _ h))
+
+ids_of_rows : (es : List (OpId × Place)) → map (λ (r : NodeRow). r.id) (map row_of es) ≡ keys_of es
+ids_of_rows [] = refl
+ids_of_rows (e ∷ es) = ap (λ ks. e.0 ∷ ks) (ids_of_rows es)
+
+entries_of_rows : (es : List (OpId × Place)) → map entry_of (map row_of es) ≡ es
+entries_of_rows [] = refl
+entries_of_rows (e ∷ es) = ap (λ fs. e ∷ fs) (entries_of_rows es)
+
+pub rows_come_back : RowsComeBack
+rows_come_back m = record {
+  rising = subst (IsStrictlySortedBy id_cmp) (sym (ids_of_rows (entries m))) (rising_from_sorted (entries m) (true_from_T _ (entries_sorted m)));
+  same = ap (from_entries {R = id_cmp}) (entries_of_rows (entries m))
+      ∙ same_map id_cmp_total id_cmp_exact _ _ (λ q. get-from_entries id_cmp_total (entries m) q ∙ sym (get-entries m q));
+}
