@@ -210,3 +210,6 @@ some-place_if (Some p) = refl
 pub none_from_is_some : {A : Type 0} (o : Option A) → is_some o ≡ false → o ≡ None
 none_from_is_some None e = refl
 none_from_is_some (Some x) e = let c : true ≡ false = e in cc
+
+pub insert_has : (s : FinSet id_cmp) (c : OpId) → contains (set.insert s c) c ≡ true
+insert_has s c = contains-inserted s c c ∙ rw (id_eq-itself c) refl
