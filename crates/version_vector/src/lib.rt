@@ -141,32 +141,59 @@ impl Vector {
 #[cfg(test)]
 mod tests {
     use super::*;
+    use std::test::Fail;
+
+    const ZEROS_32: &str = "0,0,0,0,0,0,0,0,0,0,0,0,0,0,0,0,0,0,0,0,0,0,0,0,0,0,0,0,0,0,0,0";
+
+    const ZEROS_33: &str = "0,0,0,0,0,0,0,0,0,0,0,0,0,0,0,0,0,0,0,0,0,0,0,0,0,0,0,0,0,0,0,0,0";
+
+    const SPELLED: [&str; 4] = ["0", "3,0,12", "4294967295,1", ZEROS_32];
+
+    const NOT_SPELLED: [&str; 12] = [
+        "",
+        ",",
+        "1,",
+        ",1",
+        "1,,2",
+        "1, 2",
+        "01",
+        "+1",
+        "-1",
+        "1.2",
+        "4294967296",
+        ZEROS_33,
+    ];
 
     #[test]
-    fn counts_only_rise(rt: HostRuntime) {
-        let most = 4_294_967_295;
-        for (first, second, held) in [(0, 0, 0), (3, 7, 7), (7, 3, 7), (most, 0, most)] {
-            let mut vector = Vector::zero(rt.alloc(), 32);
-            vector.raise(30, first);
-            vector.raise(30, second);
-            for member in 0..32 {
-                let want = if member == 30 { held } else { 0 };
-                assert_eq!(rt;
-                    vector.get(member),
-                    want,
-                    "{member} after {first}, {second}"
-                );
-            }
-            assert_eq!(rt; vector.len(), 32);
+    fn words_spell_vectors(rt: HostRuntime) -> Result<(), Fail> {
+        for word in SPELLED {
+            let vector = Vector::parse(rt.alloc(), word).ok_or("none")?;
+            assert_eq!(rt; vector.copy().text()?.as_str(), word);
         }
+        for word in NOT_SPELLED {
+            assert!(rt; Vector::parse(rt.alloc(), word).is_none(), "{word}");
+        }
+        Ok(())
     }
 
     #[test]
-    fn one_member(rt: HostRuntime) {
-        let mut vector = Vector::zero(rt.alloc(), 1);
-        assert_eq!(rt; vector.len(), 1);
-        assert_eq!(rt; vector.get(0), 0);
-        vector.raise(0, 5);
-        assert_eq!(rt; vector.get(0), 5);
+    fn counts_only_rise(rt: HostRuntime) {
+        let mut vector = Vector::zero(rt.alloc(), 32);
+        for (count, held) in [(3, 3), (7, 7), (5, 7), (4_294_967_295, 4_294_967_295)] {
+            vector.raise(30, count);
+            assert_eq!(rt; vector.get(30), held);
+        }
+        assert_eq!(rt; vector.get(31), 0);
+    }
+
+    #[test]
+    fn vectors_compare_in_each_place(rt: HostRuntime) -> Result<(), Fail> {
+        let mut vector = Vector::parse(rt.alloc(), "5,2").ok_or("none")?;
+        let other = Vector::parse(rt.alloc(), "3,4").ok_or("none")?;
+        assert!(rt; vector.len() == 2 && other.len() == 2);
+        assert!(rt; !vector.at_least(&other) && vector.at_least(&vector.copy()));
+        vector.least_of(&other);
+        assert_eq!(rt; vector.text()?.as_str(), "3,2");
+        Ok(())
     }
 }
