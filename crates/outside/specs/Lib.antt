@@ -6,5 +6,6 @@ pub mod MemFiles
 pub mod Memory
 pub mod Plan
 pub mod Printed
+pub mod Seen
 pub mod Sink
 pub mod Work

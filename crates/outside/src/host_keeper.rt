@@ -5,7 +5,7 @@ ghost use Rattle.outside.specs.HostFaults.{no_faults};
 ghost use Rattle.outside.specs.Keeper.{FillsFront};
 
 use crate::keeper::{Keeper, KeeperFault, Load};
-use std::fs;
+use std::fs::{self, OpenFile};
 use std::io::{ErrorKind, Read, Seek, SeekFrom, Write};
 use std::marker::Model;
 use std::rt::Files;
@@ -15,7 +15,8 @@ const PIECE: usize = 65536;
 
 /// The files of a runtime, by their paths from the current folder. It tells nothing of them, and counts its faults.
 ///
-/// A file that is not there is missing, and a folder or a file that cannot be read fails the load.
+/// A file that is not there is missing. A folder, a file that can't be read and a path through a file fail the load, so
+/// that none of them is taken for a name that is free.
 pub struct HostKeeper<'r, R> {
     rt: &'r R,
     load_faults: u64,
@@ -74,8 +75,8 @@ impl<R: Files + Alloc> Keeper for HostKeeper<'_, R> {
         loaded
     }
 
-    /// Writes the file `NAME~`, over what it held, and renames it, so that the file `name` never holds a part of the bytes.
-    /// It does not wait until they are on the disk.
+    /// Writes the file `NAME~`, over what it held, waits until the bytes are on the disk, and renames it, so that the file
+    /// `name` never holds a part of the bytes. Where that fails, `NAME~` is removed.
     fn store(&mut self, name: &str, bytes: &[u8]) -> Result<(), KeeperFault>
         ensures faults { self.new ≡ record self.old { stores = counted self.old.stores result } }
     {
@@ -110,14 +111,15 @@ fn load_piece<R: Files>(rt: &R, name: &str, at: u64, into: &mut [u8]) -> Result<
     }
 }
 
-// Writes the bytes beside the file, and puts them in its place once all are written.
+// Writes the bytes beside the file, and puts them in its place once all are on the disk.
 fn replace_file<R: Files + Alloc>(rt: &R, name: &str, bytes: &[u8]) -> Result<(), KeeperFault> {
     let beside = format!(in rt.alloc(); "{name}~")?;
     let beside = beside.as_str();
     let Ok(mut file) = fs::create(rt, beside) else {
         return Err(KeeperFault::Failed);
     };
-    if file.write_all(bytes).is_ok() && fs::rename(rt, beside, name).is_ok() {
+    let written = file.write_all(bytes).and_then(|()| file.sync_all());
+    if written.is_ok() && fs::rename(rt, beside, name).is_ok() {
         return Ok(());
     }
     let _ = fs::remove_file(rt, beside);

@@ -4,6 +4,7 @@ use crate::{
 };
 use std::fs;
 use std::process::Abort;
+use std::rt::Files;
 use std::test::Fail;
 
 // Whether pieces of three bytes make up this file.
@@ -54,44 +55,86 @@ fn memory_takes_text(rt: HostRuntime) -> Result<(), Fail> {
     Ok(())
 }
 
-#[test]
-fn the_host_keeps_files(rt: HostRuntime) -> Result<(), Fail> {
-    let _ = fs::remove_dir_all(&rt, "outside_test");
-    fs::create_dir(&rt, "outside_test")?;
-    fs::write(&rt, "outside_test/b", "other")?;
-    let mut keeper = HostKeeper::new(&rt);
-    assert_eq!(rt;
-        keeper.load("outside_test/a", 0, &mut [0; 3]),
-        Ok(Load::Missing)
-    );
-    assert_eq!(rt;
-        keeper.load("outside_test", 0, &mut [0; 3]),
-        Err(KeeperFault::Failed)
-    );
-    assert_eq!(rt;
-        keeper.store("outside_test/a", b"first, and longer"),
-        Ok(())
-    );
-    assert_eq!(rt; keeper.store("outside_test/a", b"then this"), Ok(()));
-    assert_eq!(rt; fs::exists(&rt, "outside_test/a~")?, false);
-    // The file beside it can't be written where a folder has its name.
-    fs::create_dir(&rt, "outside_test/a~")?;
-    assert_eq!(rt;
-        keeper.store("outside_test/a", b"never"),
-        Err(KeeperFault::Failed)
-    );
-    assert!(rt; holds(&rt, &mut keeper, "outside_test/a", b"then this"));
-    assert!(rt; holds(&rt, &mut keeper, "outside_test/b", b"other"));
-    assert_eq!(rt;
-        keeper.load("outside_test/a", 20, &mut [0; 3]),
-        Ok(Load::Got(0))
-    );
+// The test of the host's files makes a folder with the file `b`, which holds `other`, the folder `full`, in which the file
+// `x` holds `inner`, and the folder `a~`. These are the names there of which loads fail, which are missing, and of which stores fail.
+const UNREADABLE: [&str; 3] = ["outside_test", "outside_test/full", "outside_test/b/x"];
+
+const MISSING: [&str; 2] = ["outside_test/a", "outside_test/none/x"];
+
+const UNSTORABLE: [&str; 3] = ["outside_test/full", "outside_test/b/x", "outside_test/a"];
+
+fn make_folder(rt: &HostRuntime) -> Result<(), Fail> {
+    let _ = fs::remove_dir_all(rt, "outside_test");
+    fs::create_dir(rt, "outside_test")?;
+    fs::write(rt, "outside_test/b", "other")?;
+    fs::create_dir(rt, "outside_test/full")?;
+    fs::write(rt, "outside_test/full/x", "inner")?;
+    fs::create_dir(rt, "outside_test/a~")?;
+    Ok(())
+}
+
+fn no_unreadable_file_is_missing(rt: &impl Abort, keeper: &mut impl Keeper) {
+    for name in UNREADABLE {
+        assert_eq!(rt;
+            keeper.load(name, 0, &mut [0; 3]),
+            Err(KeeperFault::Failed),
+            "{name}"
+        );
+    }
+    for name in MISSING {
+        assert_eq!(rt;
+            keeper.load(name, 0, &mut [0; 3]),
+            Ok(Load::Missing),
+            "{name}"
+        );
+    }
+}
+
+fn a_store_that_fails_leaves_nothing(
+    rt: &(impl Files + Abort),
+    keeper: &mut impl Keeper,
+) -> Result<(), Fail> {
+    for name in UNSTORABLE {
+        assert_eq!(rt;
+            keeper.store(name, b"never"),
+            Err(KeeperFault::Failed),
+            "{name}"
+        );
+    }
+    assert_eq!(rt; fs::exists(rt, "outside_test/full~")?, false);
+    assert_eq!(rt; fs::exists(rt, "outside_test/a")?, false);
+    assert!(rt; holds(rt, keeper, "outside_test/full/x", b"inner"));
+    assert!(rt; holds(rt, keeper, "outside_test/b", b"other"));
+    Ok(())
+}
+
+fn a_store_replaces_the_file(
+    rt: &(impl Files + Abort),
+    keeper: &mut impl Keeper,
+) -> Result<(), Fail> {
+    assert_eq!(rt; keeper.store("outside_test/b", b"then this"), Ok(()));
+    assert_eq!(rt; fs::exists(rt, "outside_test/b~")?, false);
+    assert!(rt; holds(rt, keeper, "outside_test/b", b"then this"));
     let mut piece = [7; 6];
     assert_eq!(rt;
-        keeper.load("outside_test/a", 5, &mut piece),
+        keeper.load("outside_test/b", 5, &mut piece),
         Ok(Load::Got(4))
     );
     assert_eq!(rt; piece, *b"this\x07\x07");
+    assert_eq!(rt;
+        keeper.load("outside_test/b", 20, &mut piece),
+        Ok(Load::Got(0))
+    );
+    Ok(())
+}
+
+#[test]
+fn the_host_keeps_files(rt: HostRuntime) -> Result<(), Fail> {
+    make_folder(&rt)?;
+    let mut keeper = HostKeeper::new(&rt);
+    no_unreadable_file_is_missing(&rt, &mut keeper);
+    a_store_that_fails_leaves_nothing(&rt, &mut keeper)?;
+    a_store_replaces_the_file(&rt, &mut keeper)?;
     fs::remove_dir_all(&rt, "outside_test")?;
     Ok(())
 }
