@@ -1,0 +1,5 @@
+pub mod ChildLaws
+pub mod RowLaws
+pub mod GrowLaws
+pub mod PlaceLaws
+pub mod WalkLaws
