@@ -1,6 +1,7 @@
 -- Rows as they are kept.
 use Rattle.std.specs.Prelude.{◌≡◌, ℕ, Bool, true, false, cond, ◌&&◌, Option, Some, None, is_some, List, [], ◌∷◌, ◌++◌, map, refl, ◌⊎◌, ◌≢◌}
-use Rattle.std.proofs.Common.{sym, ◌∙◌, ap, subst, inl, inr}
+use Rattle.std.proofs.Common.{sym, ◌∙◌, ap, subst, inl, inr, suc, ◌+◌, ◌<◌, length, get_or, take, drop, drop-cons}
+use Rattle.std.proofs.lemmas.List.{map-append, take-append-drop, take_more}
 use Rattle.std.specs.Map.{lookup}
 use Rattle.std.specs.List.{AllByRecursion}
 use Rattle.std.specs.Ordering.{eq_by_cmp, match_ordering, is_lt, ordering_reverse}
@@ -10,6 +11,7 @@ use Rattle.std.specs.FinMap.Entries.{by_order, below_all}
 use Rattle.std.specs.declared.cmp.Ordering.{Ordering}
 use Rattle.std.specs.declared.cmp.Ordering.TheVariants.{Less, Equal, Greater}
 use Rattle.op_ids.specs.declared.OpId.{OpId}
+use Rattle.op_ids.specs.declared.Side.TheVariants.{Left}
 use Rattle.op_ids.specs.Order.{id_cmp, id_lt, root_id}
 use Rattle.op_ids.proofs.OrderLaws.{id_cmp_total, id_eq-exact, eq_by_cmp-id, less_from_is_lt, lt_trans, lt_apart}
 use Rattle.model.specs.Operation.{Anchor}
@@ -17,7 +19,8 @@ use Rattle.model.specs.Walk.{Rows}
 use Rattle.walk_laws.specs.Insertion.{anchor_of, is_row, HangsWell, IsInsertionTree, with_row}
 use Rattle.walk_laws.proofs.Walks.{key_eq, key_itself, key_cases, lt_back, both}
 use Rattle.fugue_tree.specs.declared.tree.Anchor as code
-use Rattle.fugue_tree.specs.Tree.{kept_anchor, kept_entry, kept_rows}
+use Rattle.fugue_tree.specs.declared.tree.PlaceRow.{PlaceRow}
+use Rattle.fugue_tree.specs.Tree.{entry_of, kept_anchor, kept_entry, kept_rows}
 
 abbrev pub kept_if : Option code.Anchor → Option Anchor
 kept_if None = None
@@ -122,3 +125,18 @@ next_row front e back t =
           ];
       now = put_last front e.0 e.1 before;
     }
+
+abbrev pub no_row : PlaceRow
+no_row = record { owner = root_id; id = root_id; anchor = root_id; side = Left }
+
+module _ (rows : List PlaceRow) (i : ℕ) (d : PlaceRow) where
+  parts : i < length rows → map entry_of rows ≡ map entry_of (take i rows) ++ entry_of (get_or rows i d) ∷ map entry_of (drop (suc i) rows)
+  parts h =
+      ap (map entry_of) (sym (take-append-drop i rows) ∙ ap (λ more. take i rows ++ more) (drop-cons rows i d h))
+      ∙ map-append entry_of (take i rows) (get_or rows i d ∷ drop (suc i) rows)
+
+  pub next_at : IsInsertionTree (map entry_of rows) → i < length rows → NextRow (map entry_of (take i rows)) (entry_of (get_or rows i d))
+  next_at t h = next_row (map entry_of (take i rows)) (entry_of (get_or rows i d)) (map entry_of (drop (suc i) rows)) (subst IsInsertionTree (parts h) t)
+
+  pub rows_more : i < length rows → map entry_of (take (i + 1) rows) ≡ map entry_of (take i rows) ++ entry_of (get_or rows i d) ∷ []
+  rows_more h = ap (map entry_of) (take_more rows i d h) ∙ map-append entry_of (take i rows) (get_or rows i d ∷ [])
