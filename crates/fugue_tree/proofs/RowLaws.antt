@@ -20,7 +20,7 @@ use Rattle.walk_laws.specs.Insertion.{anchor_of, is_row, HangsWell, IsInsertionT
 use Rattle.walk_laws.proofs.Walks.{key_eq, key_itself, key_cases, lt_back, both}
 use Rattle.fugue_tree.specs.declared.tree.Anchor as code
 use Rattle.fugue_tree.specs.declared.tree.PlaceRow.{PlaceRow}
-use Rattle.fugue_tree.specs.Tree.{entry_of, kept_anchor, kept_entry, kept_rows}
+use Rattle.fugue_tree.specs.Tree.{entry_of, row_of, kept_anchor, kept_entry, kept_rows}
 
 abbrev pub kept_if : Option code.Anchor → Option Anchor
 kept_if None = None
@@ -140,3 +140,9 @@ module _ (rows : List PlaceRow) (i : ℕ) (d : PlaceRow) where
 
   pub rows_more : i < length rows → map entry_of (take (i + 1) rows) ≡ map entry_of (take i rows) ++ entry_of (get_or rows i d) ∷ []
   rows_more h = ap (map entry_of) (take_more rows i d h) ∙ map-append entry_of (take i rows) (get_or rows i d ∷ [])
+
+-- ---- rows that were handed out
+
+pub entries_rows : (owner : OpId) (rows : Rows) → map entry_of (map (row_of owner) rows) ≡ rows
+entries_rows owner [] = refl
+entries_rows owner (e ∷ rows) = ap (λ more. e ∷ more) (entries_rows owner rows)
