@@ -1,4 +1,5 @@
-pub mod FieldLaws
 pub mod KindLaws
 pub mod OperationLaws
 pub mod TextLaws
+pub mod HeadLaws
+pub mod PartsLaws

@@ -1,4 +1,5 @@
 pub mod Values
-pub mod Fields
 pub mod Operations
 pub mod Rules
+pub mod Changes
+pub mod Parts

@@ -7,8 +7,9 @@ use Rattle.op_ids.specs.Order.{root_id, trash_id}
 use Rattle.op_ids.specs.declared.OpId.{OpId}
 use Rattle.op_ids.specs.declared.Side.{Side}
 use Rattle.cbor_det.specs.Item as cbor
-use Rattle.cbor_det.specs.Item.{Item, spell, IsItem}
+use Rattle.cbor_det.specs.Item.{Item, spell, IsItem, IsSpelled}
 use Rattle.cbor_det.specs.Unread.{Unread}
+use Rattle.cbor_det.specs.FieldFaults.{FlawedHere}
 use Rattle.model.specs.Value as model
 use Rattle.model.specs.Value.{row}
 use Rattle.model.specs.Operation as model_ops
@@ -19,7 +20,7 @@ use Rattle.op_grammar.specs.declared.value.Value.{Value}
 use Rattle.op_grammar.specs.declared.operation.OpRef.{OpRef}
 use Rattle.op_grammar.specs.declared.operation.OpRef.TheVariants as ops
 use Rattle.op_grammar.specs.declared.reading.OpFault.{OpFault}
-use Rattle.op_grammar.specs.declared.reading.OpFault.TheVariants.{Shape}
+use Rattle.op_grammar.specs.declared.reading.OpFault.TheVariants.{Cbor, Shape}
 
 abbrev pub anchor_of : OpId × Side → Anchor
 anchor_of a = record { on = a.0; side = a.1 }
@@ -93,7 +94,8 @@ ReadsKind n kind count old new result =
 abbrev pub field_counts : List ℕ
 field_counts = 3 ∷ 4 ∷ 3 ∷ 4 ∷ 3 ∷ 4 ∷ 4 ∷ 3 ∷ 2 ∷ []
 
--- The item is that of the operation that is read, and this follows it; or it is that of none.
-abbrev pub OpAnswer : ℕ → Result (OpRef × Bor (List ℕ)) OpFault → Item → List ℕ → Type 0
-OpAnswer n (Ok p) x more = (x ≡ operation_item (operation_of p.0)) × IsOperation n (operation_of p.0) × (p.1.now ≡ more)
-OpAnswer n (Err f) x more = (f ≡ Shape) × ((o : Operation) → x ≡ operation_item o → IsOperation n o → ⊥)
+-- What a read of the operation that is spelled first answers. Cbor is the flaw of the first item, and Shape stands for an item that is spelled right and is no operation's.
+abbrev pub OpAnswer : ℕ → List ℕ → Result (OpRef × Bor (List ℕ)) OpFault → Type 0
+OpAnswer n bytes (Ok p) = (bytes ≡ spell (operation_item (operation_of p.0)) ++ p.1.now) × IsOperation n (operation_of p.0)
+OpAnswer n bytes (Err (Cbor f)) = FlawedHere (record { len = length bytes; rest = bytes }) f
+OpAnswer n bytes (Err Shape) = (x : Item) × (more : List ℕ) × IsSpelled x × (bytes ≡ spell x ++ more) × ((o : Operation) → x ≡ operation_item o → IsOperation n o → ⊥)

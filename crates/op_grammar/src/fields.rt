@@ -11,7 +11,7 @@ ghost use Rattle.model.specs.Value.{row, id_item, IsOpId, value_item, IsValue, i
 ghost use Rattle.model.specs.Value as model;
 ghost use Rattle.model.specs.Operation.{side_item, IsAnchor, IsKey, IsTyped, utf8};
 ghost use Rattle.std.specs.Str.{chars};
-ghost use Rattle.op_grammar.specs.Fields.{ReadsField, ReadsFields, ReadsRow};
+ghost use Rattle.cbor_det.specs.Rows.{ReadsField, ReadsFields, ReadsRow};
 ghost use Rattle.op_grammar.specs.Values.{value_of, IsSaid};
 ghost use Rattle.op_grammar.specs.Operations.{anchor_of, anchor_items, two_ids, AreTwoIds, id_anchor_of, id_and_anchor, AreIdAndAnchor, IsChild, id_and_count, AreRun, key_value_of, key_and_value, AreKeyAndValue};
 
@@ -63,7 +63,7 @@ fn read_two_numbers(cursor: &mut Cursor<'_>) -> Option<(u64, u64)>
 }
 
 /// Three numbers that stand first in a row.
-fn read_numbers(cursor: &mut Cursor<'_>) -> Option<(u64, (u64, u64))>
+pub(crate) fn read_numbers(cursor: &mut Cursor<'_>) -> Option<(u64, (u64, u64))>
     ensures { ReadsFields 3 (λ p. p) (λ p. unsigned p.0 ∷ unsigned p.1.0 ∷ unsigned p.1.1 ∷ []) (λ p. Unit {0} × (Unit {0} × Unit {0})) (unread cursor.old) (unread cursor.new) result }
 {
     let time = read_number(cursor)?;

@@ -7,7 +7,7 @@ use Rattle.model.specs.Value as model
 use Rattle.model.specs.Value.{id_item, IsOpId, value_item, IsValue}
 use Rattle.model.specs.Operation.{IsKey}
 use Rattle.op_grammar.specs.Values.{value_of}
-use Rattle.op_grammar.proofs.FieldLaws.{one, both_read, second_stops, first_stops}
+use Rattle.cbor_det.proofs.RowLaws.{one, both_read, second_stops, first_stops}
 use Rattle.op_grammar.proofs.fields.read_key_and_value.Goals as goal
 
 pub returns-in_err-key : goal.returns-in_err-key

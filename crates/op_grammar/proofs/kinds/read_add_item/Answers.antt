@@ -10,7 +10,7 @@ use Rattle.model.specs.Operation.{Anchor, add_item}
 use Rattle.op_grammar.specs.declared.operation.OpRef.TheVariants as ops
 use Rattle.op_grammar.specs.Values.{value_of}
 use Rattle.op_grammar.specs.Operations.{id_anchor_of, id_and_anchor, AreIdAndAnchor}
-use Rattle.op_grammar.proofs.FieldLaws.{one, both_read, second_stops, first_stops}
+use Rattle.cbor_det.proofs.RowLaws.{one, both_read, second_stops, first_stops}
 use Rattle.op_grammar.proofs.KindLaws.{kind_read, kind_stops, add_item_back, add_item_forth}
 use Rattle.op_grammar.proofs.kinds.read_add_item.Goals as goal
 

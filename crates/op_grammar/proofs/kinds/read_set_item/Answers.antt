@@ -9,7 +9,7 @@ use Rattle.model.specs.Operation.{set_item}
 use Rattle.op_grammar.specs.declared.operation.OpRef.TheVariants as ops
 use Rattle.op_grammar.specs.Values.{value_of}
 use Rattle.op_grammar.specs.Operations.{two_ids, AreTwoIds}
-use Rattle.op_grammar.proofs.FieldLaws.{one, both_read, second_stops, first_stops}
+use Rattle.cbor_det.proofs.RowLaws.{one, both_read, second_stops, first_stops}
 use Rattle.op_grammar.proofs.KindLaws.{kind_read, kind_stops, set_item_back, set_item_forth}
 use Rattle.op_grammar.proofs.kinds.read_set_item.Goals as goal
 

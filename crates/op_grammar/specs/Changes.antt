@@ -1,0 +1,46 @@
+-- Heads of changes, and what the calls answer that look at the item of a change.
+use Rattle.std.specs.Prelude.{◌≡◌, ◌⊎◌, ℕ, ◌<◌, ◌≤◌, ◌^◌, List, length, take, drop, Result, Ok, Err}
+use Rattle.std.specs.Borrow.{Bor}
+use Rattle.cbor_det.specs.Item.{Item}
+use Rattle.model.specs.Operation.{Operation}
+use Rattle.model.specs.Change.{Change, IsChange, ChangeParts, change_item, parts_item, width, body}
+use Rattle.model.specs.Rules as model
+use Rattle.model.specs.Rules.{BreaksFirst, KeepsAll, KeepsChange, change_rules}
+use Rattle.op_grammar.specs.Rules.{rule_of}
+use Rattle.op_grammar.specs.declared.head.Head.{Head}
+use Rattle.op_grammar.specs.declared.rule.Rule.{Rule}
+use Rattle.op_grammar.specs.declared.rule.Rule.TheVariants.{G6, G7}
+
+-- what a change says but for its operations
+abbrev pub head_of : Change → Head
+head_of c = record { member = c.member; number = c.number; time = c.time; causes = c.causes; count = length c.operations; width = width c }
+
+-- the change with these operations
+abbrev pub change_of : Head → List Operation → Change
+change_of h os = record { member = h.member; number = h.number; time = h.time; causes = h.causes; operations = os }
+
+-- what an item says that has this head and this body
+abbrev pub parts_by : Head → List ℕ → ChangeParts
+parts_by h bytes = record { member = h.member; number = h.number; time = h.time; causes = h.causes; count = h.count; width = h.width; body = bytes }
+
+-- the rules that the head decides, G1 to G5, and those of the body, G6 and G7
+abbrev pub head_rules : List model.Rule
+head_rules = take 5 change_rules
+
+abbrev pub body_rules : List model.Rule
+body_rules = drop 5 change_rules
+
+-- What a check of a change answers: its head, where the item is that of a change of n members, or the first rule that the item breaks.
+abbrev pub CheckAnswer : ℕ → Item → Result Head Rule → Type 0
+CheckAnswer n x (Ok h) = (c : Change) × (x ≡ change_item c) × IsChange n c × (h ≡ head_of c)
+CheckAnswer n x (Err r) = BreaksFirst (KeepsChange n) change_rules x (rule_of r)
+
+-- The item says a count, or else a width, that no head holds.
+abbrev pub IsTooGreat : ChangeParts → Rule → Type 0
+IsTooGreat p r = ((r ≡ G6) × (2 ^ 32 ≤ p.count)) ⊎ ((r ≡ G7) × (p.count < 2 ^ 32) × (2 ^ 32 ≤ p.width))
+
+-- What a read of a head answers, by the rules of heads alone.
+abbrev pub HeadAnswer : ℕ → Item → Result (Head × Bor (List ℕ)) Rule → Type 0
+HeadAnswer n x (Ok p) = (x ≡ parts_item (parts_by p.0 p.1.now)) × KeepsAll (KeepsChange n) head_rules x
+HeadAnswer n x (Err r) = BreaksFirst (KeepsChange n) head_rules x (rule_of r)
+    ⊎ (KeepsAll (KeepsChange n) head_rules x × ((p : ChangeParts) × (x ≡ parts_item p) × IsTooGreat p r))

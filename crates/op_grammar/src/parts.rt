@@ -1,0 +1,101 @@
+//! What the item of a change says, read.
+
+ghost use Rattle.std.specs.Prelude.{◌≡◌};
+ghost use Rattle.cbor_det.specs.Item.{Item, IsSpelled, spell, bytes};
+ghost use Rattle.cbor_det.specs.Unread.{unread};
+ghost use Rattle.cbor_det.specs.Rows.{ReadsField, ReadsFields};
+ghost use Rattle.op_grammar.specs.Parts.{SkipsNumbers, SkipsRow, ReadsSeven, PartsAnswer, width_body_of, width_and_body, rest_of, count_and_rest};
+
+use crate::fields::{read_number, read_numbers, read_row};
+use cbor_det::Cursor;
+
+/// How many fields a change has.
+const FIELDS: u64 = 7;
+
+/// What the item of a change says, its numbers as they stand. The causes are to be read at their cursor.
+#[derive(Clone, Copy)]
+pub(crate) struct Parts<'a> {
+    pub member: u64,
+    pub number: u64,
+    pub time: u64,
+    pub causes: Cursor<'a>,
+    pub count: u64,
+    pub width: u64,
+    pub body: &'a [u8],
+}
+
+/// The parts of a change, where an item has its shape.
+pub(crate) fn read_parts<'a>(span: &'a [u8]) -> Option<Parts<'a>>
+    ensures { (x : Item) → IsSpelled x → span.now ≡ spell x → PartsAnswer result x }
+{
+    let mut cursor = Cursor::new(span);
+    let count = read_row(&mut cursor)?;
+    if count != FIELDS {
+        return None;
+    }
+    read_seven(&mut cursor)
+}
+
+/// The parts of a change, where they are the fields of a row.
+fn read_seven<'a>(cursor: &mut Cursor<'a>) -> Option<Parts<'a>>
+    ensures { ReadsSeven (unread cursor.old) result }
+{
+    let (member, (number, time)) = read_numbers(cursor)?;
+    let causes = *cursor;
+    skip_row(cursor)?;
+    let (count, (width, body)) = read_rest(cursor)?;
+    Some(Parts {
+        member,
+        number,
+        time,
+        causes,
+        count,
+        width,
+        body,
+    })
+}
+
+/// Goes past a row of numbers, where one stands, and tells how many they are.
+fn skip_row(cursor: &mut Cursor<'_>) -> Option<u64>
+    ensures { SkipsRow (unread cursor.old) (unread cursor.new) result }
+{
+    let count = read_row(cursor)?;
+    skip_numbers(cursor, count)
+}
+
+/// Goes past so many numbers, where they stand.
+fn skip_numbers(cursor: &mut Cursor<'_>, count: u64) -> Option<u64>
+    ensures { SkipsNumbers count (unread cursor.old) (unread cursor.new) result }
+{
+    for passed in 0..count {
+        read_number(cursor)?;
+    }
+    Some(count)
+}
+
+/// The last three parts: how many operations there are, how many ids they take, and their spellings.
+fn read_rest<'a>(cursor: &mut Cursor<'a>) -> Option<(u64, (u64, &'a [u8]))>
+    ensures { ReadsFields 3 rest_of count_and_rest (λ p. Unit {0} × (Unit {0} × Unit {0})) (unread cursor.old) (unread cursor.new) result }
+{
+    let count = read_number(cursor)?;
+    let rest = read_width_and_body(cursor)?;
+    Some((count, rest))
+}
+
+fn read_width_and_body<'a>(cursor: &mut Cursor<'a>) -> Option<(u64, &'a [u8])>
+    ensures { ReadsFields 2 width_body_of width_and_body (λ p. Unit {0} × Unit {0}) (unread cursor.old) (unread cursor.new) result }
+{
+    let width = read_number(cursor)?;
+    let body = read_bytes(cursor)?;
+    Some((width, body))
+}
+
+/// A byte string, where one stands.
+fn read_bytes<'a>(cursor: &mut Cursor<'a>) -> Option<&'a [u8]>
+    ensures { ReadsField (λ b. b.now) bytes (λ _. Unit {0}) (unread cursor.old) (unread cursor.new) result }
+{
+    match cursor.bytes() {
+        Ok(content) => Some(content),
+        Err(_) => None,
+    }
+}
