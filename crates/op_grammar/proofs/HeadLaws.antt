@@ -92,11 +92,11 @@ module _ (n : ℕ) (x : Item) (p : Parts) (whole : PartsAnswer (Some p) x) where
       own_breaks other =
           subst (λ y. BreaksFirst (KeepsChange n) head_rules y (rule_of r.G5)) (sym whole.1)
           (breaks_G5 n whole.0 within (λ k.
-                let c = counts in
-                let inside : whole.0.member < length whole.0.causes = omega (arith, c.1, within.0) in
-                let own : get_or whole.0.causes whole.0.member 0 ≡ k.own.0 = same_Some _ _ (sym (slice_get-get_or whole.0.causes whole.0.member 0 inside) ∙ k.own.1) in
-                let here : get_or v p.member 0 ≡ get_or whole.0.causes whole.0.member 0 = λ i. get_or (c.0 i) (sym whole.2.member i) 0 in
-                other (omega (arith, here, own, k.own.2, whole.2.number))))
+          let c = counts in
+          let inside : whole.0.member < length whole.0.causes = omega (arith, c.1, within.0) in
+          let own : get_or whole.0.causes whole.0.member 0 ≡ k.own.0 = same_Some _ _ (sym (slice_get-get_or whole.0.causes whole.0.member 0 inside) ∙ k.own.1) in
+          let here : get_or v p.member 0 ≡ get_or whole.0.causes whole.0.member 0 = λ i. get_or (c.0 i) (sym whole.2.member i) 0 in
+          other (omega (arith, here, own, k.own.2, whole.2.number))))
 
       pub head_said : (s : Said) → s.member ≡ p.member → s.number ≡ p.number → s.time ≡ p.time → s.causes ≡ v → s.count ≡ p.count → s.width ≡ p.width → s.body.now ≡ p.body.now → get_or v p.member 0 ≡ p.number - 1 → SaidAnswer n x (Ok s)
       head_said s e0 e1 e2 e3 e4 e5 e6 own =

@@ -3,3 +3,5 @@ pub mod OperationLaws
 pub mod TextLaws
 pub mod HeadLaws
 pub mod PartsLaws
+pub mod BodyLaws
+pub mod CheckLaws

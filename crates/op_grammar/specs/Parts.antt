@@ -1,10 +1,11 @@
 -- What is read of the item of a change, piece by piece.
-use Rattle.std.specs.Prelude.{◌≡◌, ◌≢◌, ℕ, ◌<◌, ◌≤◌, ◌^◌, List, [], ◌∷◌, ◌++◌, length, slice_index, drop, flat_map, map, Option, None, Some, Result, Ok, Err}
+use Rattle.std.specs.Prelude.{◌≡◌, ◌≢◌, ◌↔◌, ℕ, ◌+◌, ◌<◌, ◌≤◌, ◌^◌, List, [], ◌∷◌, ◌++◌, length, slice_index, drop, sum_by, flat_map, map, Option, None, Some, Result, Ok, Err}
 use Rattle.std.specs.List.{AllByRecursion}
-use Rattle.cbor_det.specs.Item.{Item, IsItem, spell, unsigned, bytes, row}
+use Rattle.cbor_det.specs.Item.{Item, IsItem, spell, unsigned, bytes, row, Spells}
 use Rattle.std.specs.Borrow.{Bor}
 use Rattle.cbor_det.specs.Unread.{Unread, unread}
 use Rattle.model.specs.Value.{numbers_item}
+use Rattle.model.specs.Operation.{Operation, IsOperation, operation_item, width_of}
 use Rattle.model.specs.Change.{ChangeParts, parts_item}
 use Rattle.model.specs.Rules.{BreaksFirst, KeepsAll, KeepsChange}
 use Rattle.op_grammar.specs.Rules.{rule_of}
@@ -102,3 +103,17 @@ said_parts s = record { member = s.member; number = s.number; time = s.time; cau
 abbrev pub SaidAnswer : ℕ → Item → Result Said Rule → Type 0
 SaidAnswer n x (Ok s) = (x ≡ parts_item (said_parts s)) × KeepsAll (KeepsChange n) head_rules x
 SaidAnswer n x (Err r) = BreaksFirst (KeepsChange n) head_rules x (rule_of r)
+
+-- These items are of operations, which take so many ids.
+pub record AreOperations (n : ℕ) (items : List Item) (ids : ℕ) : Type 0 where
+  pub operations : List Operation
+  pub are : items ≡ map operation_item operations
+  pub each : AllByRecursion (IsOperation n) operations
+  pub taken : sum_by width_of operations ≡ ids
+
+-- Some of the items were read, and all are such operations exactly where those that are left are, with so many ids left.
+pub record LeftToRead (n : ℕ) (all : List Item) (ids read : ℕ) (now : Unread) (left : ℕ) : Type 0 where
+  pub items : List Item
+  pub counted : length items + read ≡ length all
+  pub spelled : Spells now.rest items
+  pub same : AreOperations n all ids ↔ AreOperations n items left

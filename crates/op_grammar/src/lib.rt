@@ -4,6 +4,7 @@
 #![tactic(auto)]
 
 mod change;
+mod check;
 mod fields;
 mod head;
 mod kinds;
@@ -14,6 +15,7 @@ mod rule;
 mod value;
 
 pub use change::WriteFault;
+pub use check::check_change;
 pub use fields::{read_id, read_side, read_value};
 pub use head::{Head, read_head};
 pub use op_ids::Side;
