@@ -1,10 +1,10 @@
 -- The operations of a body, one after the other.
-use Rattle.std.proofs.Common.{◌≡◌, ◌↔◌, ℕ, zero, suc, ◌+◌, ◌-◌, ◌<◌, ◌≤◌, ◌^◌, List, [], ◌∷◌, ◌++◌, map, length, refl, sym, ap, subst, ◌∙◌, arith, append_assoc, lit≤}
+use Rattle.std.proofs.Common.{◌≡◌, ◌↔◌, ℕ, ◌+◌, ◌-◌, ◌<◌, ◌≤◌, ◌^◌, List, [], ◌∷◌, ◌++◌, map, length, refl, sym, ap, subst, ◌∙◌, arith, lit≤}
 use Rattle.std.specs.Prelude.{flat_map, Option, None, Some, min, sum_by}
 use Rattle.std.specs.List.{AllByRecursion}
-use Rattle.std.proofs.lemmas.List.{append-nil, length-append, length-map}
+use Rattle.std.proofs.lemmas.List.{length-append}
 use Rattle.std.proofs.lemmas.List.Sums.{sum_by-cons}
-use Rattle.cbor_det.specs.Item.{Item, IsItem, IsSpelled, spell, Spells}
+use Rattle.cbor_det.specs.Item.{Item, IsSpelled, spell, Spells}
 use Rattle.cbor_det.specs.Unread.{Unread}
 use Rattle.cbor_det.specs.Rows.{ReadsField}
 use Rattle.cbor_det.specs.Flaw.{HasFlaw}

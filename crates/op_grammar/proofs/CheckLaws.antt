@@ -1,14 +1,14 @@
 -- From what is read of a change to the rules that it keeps, and to the change.
-use Rattle.std.proofs.Common.{◌≡◌, ◌↔◌, ℕ, ◌<◌, ◌≤◌, ◌^◌, List, length, Bor, refl, sym, ap, subst, ◌∙◌, arith, inl, inr}
-use Rattle.std.specs.Prelude.{Ok, Err, Result, ◌⊎◌}
+use Rattle.std.proofs.Common.{◌≡◌, ◌↔◌, ℕ, ◌<◌, ◌≤◌, ◌^◌, refl, sym, subst, ◌∙◌, inl, inr}
+use Rattle.std.specs.Prelude.{Ok, Err, Result}
 use Rattle.cbor_det.specs.Item.{Item}
-use Rattle.model.specs.Change.{Change, ChangeParts, parts_item, parts_of, change_item, IsChange}
+use Rattle.model.specs.Change.{parts_of}
 use Rattle.model.specs.Rules as model
 use Rattle.model.specs.Rules.{BreaksFirst, KeepsAll, KeepsChange, SaysChange, IsBody, HasOperations, change_rules}
 use Rattle.file_laws.proofs.SameParts.{parts_same}
 use Rattle.file_laws.proofs.RuleLaws.{kept_are_changes}
 use Rattle.op_grammar.specs.Rules.{rule_of}
-use Rattle.op_grammar.specs.Changes.{head_rules, head_of, CheckAnswer}
+use Rattle.op_grammar.specs.Changes.{head_rules, CheckAnswer}
 use Rattle.op_grammar.specs.Parts.{AreOperations, SaidAnswer, said_parts}
 use Rattle.op_grammar.specs.declared.head.Head.{Head}
 use Rattle.op_grammar.specs.declared.head.Said.{Said}

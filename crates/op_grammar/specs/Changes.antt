@@ -3,7 +3,7 @@ use Rattle.std.specs.Prelude.{◌≡◌, ◌⊎◌, ℕ, ◌<◌, ◌≤◌, ◌
 use Rattle.std.specs.Borrow.{Bor}
 use Rattle.cbor_det.specs.Item.{Item}
 use Rattle.model.specs.Operation.{Operation}
-use Rattle.model.specs.Change.{Change, IsChange, ChangeParts, change_item, parts_item, width, body}
+use Rattle.model.specs.Change.{Change, IsChange, ChangeParts, change_item, parts_item, width}
 use Rattle.model.specs.Rules as model
 use Rattle.model.specs.Rules.{BreaksFirst, KeepsAll, KeepsChange, change_rules}
 use Rattle.op_grammar.specs.Rules.{rule_of}

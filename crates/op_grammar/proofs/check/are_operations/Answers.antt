@@ -1,6 +1,6 @@
-use Rattle.std.proofs.Common.{arith, ap, ◌∙◌, sym, eq-eqb}
+use Rattle.std.proofs.Common.{arith, eq-eqb}
 use Rattle.std.proofs.lemmas.Bool.{eqb-true}
-use Rattle.cbor_det.specs.Unread.{Unread, unread}
+use Rattle.cbor_det.specs.Unread.{unread}
 use Rattle.op_grammar.proofs.BodyLaws.{op_stops, op_too_wide, op_read, left_none}
 use Rattle.op_grammar.proofs.check.are_operations.Goals as goal
 

@@ -1,5 +1,4 @@
-use Rattle.std.proofs.Common.{◌≡◌, ◌↔◌, ap, sym, arith, eq-eqb}
-use Rattle.std.proofs.Common.{length}
+use Rattle.std.proofs.Common.{arith, eq-eqb}
 use Rattle.std.proofs.lemmas.Bool.{eqb-true}
 use Rattle.op_grammar.proofs.BodyLaws.{body_few, body_counted, body_flawed}
 use Rattle.op_grammar.proofs.check.is_body.Goals as goal

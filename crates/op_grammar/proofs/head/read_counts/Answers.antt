@@ -1,8 +1,7 @@
-use Rattle.std.proofs.Common.{◌∙◌, sym, arith, ap, length, max, get_or}
-use Rattle.std.specs.Prelude.{Some}
+use Rattle.std.proofs.Common.{◌∙◌, arith, ap, length, max, get_or}
 use Rattle.std.proofs.Math.ListN.{length-set}
 use Rattle.cbor_det.specs.Unread.{unread}
-use Rattle.op_grammar.proofs.PartsLaws.{HasCounted, count_stops, count_too_great, count_more, count_ends}
+use Rattle.op_grammar.proofs.PartsLaws.{count_stops, count_too_great, count_more, count_ends}
 use Rattle.op_grammar.proofs.head.read_counts.Goals as goal
 
 pub returns-in_err-count-clause-numbers : goal.returns-in_err-count-clause-numbers

@@ -1,6 +1,6 @@
 use Rattle.std.proofs.Common.{Err, refl, ap, ◌∙◌, sym}
 use Rattle.std.proofs.lemmas.Result.{err_from_is_err_and}
-use Rattle.op_grammar.proofs.HeadLaws.{numbers_break, causes_break, own_breaks, head_said}
+use Rattle.op_grammar.proofs.HeadLaws.{numbers_break, own_breaks, head_said}
 use Rattle.op_grammar.proofs.head.read_said.Goals as goal
 
 pub returns-in_err-check_numbers : goal.returns-in_err-check_numbers

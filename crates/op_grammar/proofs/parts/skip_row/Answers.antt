@@ -1,5 +1,5 @@
 use Rattle.cbor_det.specs.Unread.{unread}
-use Rattle.op_grammar.proofs.PartsLaws.{row_passed, row_not_passed}
+use Rattle.op_grammar.proofs.PartsLaws.{row_passed}
 use Rattle.op_grammar.proofs.parts.skip_row.Goals as goal
 
 pub returns : goal.returns
