@@ -44,7 +44,8 @@ impl From<AllocError> for DiagnosticFault {
 /// The items that the bytes spell, a line for each.
 fn lines_of(alloc: Global, bytes: &[u8]) -> Result<String, AllocError>
     requires { (xs : List Item) × Spells bytes.now xs }
-    ensures { IfOk result (λ out. (xs : List Item) × Spells bytes.now xs × (string_bytes out ≡ notation_lines xs)) }
+    ensures { IfOk result (λ out. (xs : List Item) × Spells bytes.now xs
+        × (string_bytes out ≡ notation_lines xs)) }
 {
     let mut out = String::new(alloc);
     let mut rest = bytes;
@@ -58,7 +59,8 @@ fn lines_of(alloc: Global, bytes: &[u8]) -> Result<String, AllocError>
 /// A sequence of items in the notation of RFC 8949, section 8, a line for each item; or its first
 /// fault, as [`check_sequence`] answers it.
 pub fn diagnostic(alloc: Global, bytes: &[u8]) -> Result<OwnText, DiagnosticFault>
-    ensures printed { IfOk result (λ text. (xs : List Item) × Spells bytes.now xs × (text ≡ notation_lines xs)) }
+    ensures printed { IfOk result (λ text. (xs : List Item) × Spells bytes.now xs
+        × (text ≡ notation_lines xs)) }
     ensures flawed { (f : CborFault) → (result ≡ Err (DiagnosticFault.Cbor f)) ↔ HasFlaw bytes.now f }
 {
     check_sequence(bytes)?;

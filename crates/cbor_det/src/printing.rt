@@ -86,8 +86,10 @@ fn push_head<'a>(
     bytes: &'a [u8],
 ) -> Result<&'a [u8], AllocError>
     requires { StandsFirst bytes.now }
-    ensures goes_on { (whole more : List ℕ) → WantsItem whole more tasks.old.items bytes.now (string_bytes out.old)
-        → IfOk result (λ rest. IsPrinting whole more tasks.new.items rest.now (string_bytes out.new)) }
+    ensures goes_on { (whole more : List ℕ)
+        → WantsItem whole more tasks.old.items bytes.now (string_bytes out.old)
+        → IfOk result (λ rest.
+        IsPrinting whole more tasks.new.items rest.now (string_bytes out.new)) }
     ensures shorter { IfOk result (λ rest. length rest.now < length bytes.now) }
     ensures deeper { OnOk result (length tasks.new.items ≤ length tasks.old.items + 1) }
 {
@@ -148,7 +150,8 @@ pub(crate) fn push_item<'a>(
 ) -> Result<&'a [u8], AllocError>
     requires { StandsFirst bytes.now }
     ensures { (x : Item) (more : List ℕ) → IsSpelled x → bytes.now ≡ spell x ++ more
-        → IfOk result (λ rest. (rest.now ≡ more) × (string_bytes out.new ≡ string_bytes out.old ++ notation x)) }
+        → IfOk result (λ rest. (rest.now ≡ more)
+        × (string_bytes out.new ≡ string_bytes out.old ++ notation x)) }
 {
     let mut tasks = Vec::new(alloc);
     let mut rest = push_head(alloc, out, &mut tasks, bytes)?;
