@@ -164,6 +164,14 @@ mod tests {
         ZEROS_33,
     ];
 
+    // Two counts that one member's is raised to, and what it is then.
+    const RAISES: [(u32, u32, u32); 4] = [
+        (0, 0, 0),
+        (3, 7, 7),
+        (7, 3, 7),
+        (4_294_967_295, 0, 4_294_967_295),
+    ];
+
     #[test]
     fn words_spell_vectors(rt: HostRuntime) -> Result<(), Fail> {
         for word in SPELLED {
@@ -178,12 +186,13 @@ mod tests {
 
     #[test]
     fn counts_only_rise(rt: HostRuntime) {
-        let mut vector = Vector::zero(rt.alloc(), 32);
-        for (count, held) in [(3, 3), (7, 7), (5, 7), (4_294_967_295, 4_294_967_295)] {
-            vector.raise(30, count);
-            assert_eq!(rt; vector.get(30), held);
+        for (first, second, held) in RAISES {
+            let mut vector = Vector::zero(rt.alloc(), 32);
+            vector.raise(30, first);
+            vector.raise(30, second);
+            assert_eq!(rt; vector.get(30), held, "{first}, {second}");
+            assert_eq!(rt; vector.get(31), 0);
         }
-        assert_eq!(rt; vector.get(31), 0);
     }
 
     #[test]
