@@ -1,0 +1,9 @@
+use Rattle.std.proofs.Common.{refl}
+use Rattle.outline_words.proofs.reading.read_bundle.Goals as goal
+
+pub returns-clause-command : goal.returns-clause-command
+returns-clause-command c =
+    let name_read = c.in_ok-name.ensures.found in
+    let vector_read = c.in_ok-vector.ensures.found in
+    let out_read = c.in_ok-out.ensures.found in
+    (_, refl, (_, _, name_read.valid, name_read.words, (_, _, vector_read.valid, vector_read.words, (_, _, out_read.valid, out_read.words, (c.in_ok-end.ensures.ended, refl)))))

@@ -1,0 +1,10 @@
+use Rattle.std.proofs.Common.{refl}
+use Rattle.outline_words.proofs.reading.read_set.Goals as goal
+
+pub returns-clause-command : goal.returns-clause-command
+returns-clause-command c =
+    let name_read = c.in_ok-name.ensures.found in
+    let node_read = c.in_ok-node.ensures.found in
+    let at_read = c.in_ok-at.ensures.found in
+    let value_read = c.in_ok-value.ensures.found.2 in
+    (_, (c.in_ok-value.ensures.found.0, c.in_ok-value.ensures.found.1, refl), (_, _, name_read.valid, name_read.words, (_, _, node_read.valid, node_read.words, (_, _, at_read.valid, at_read.words, (_, _, value_read.valid, value_read.words, (c.in_ok-end.ensures.ended, refl))))))

@@ -1,0 +1,10 @@
+use Rattle.std.proofs.Common.{refl}
+use Rattle.outline_words.proofs.reading.read_type.Goals as goal
+
+pub returns-clause-command : goal.returns-clause-command
+returns-clause-command c =
+    let name_read = c.in_ok-name.ensures.found in
+    let node_read = c.in_ok-node.ensures.found in
+    let at_read = c.in_ok-at.ensures.found in
+    let text_read = c.in_ok-text.ensures.found in
+    (_, refl, (_, _, name_read.valid, name_read.words, (_, _, node_read.valid, node_read.words, (_, _, at_read.valid, at_read.words, (_, _, text_read.valid, text_read.words, (c.in_ok-end.ensures.ended, refl))))))

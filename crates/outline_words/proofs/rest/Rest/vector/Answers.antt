@@ -1,0 +1,7 @@
+use Rattle.std.proofs.Common.{rules}
+use Rattle.outline_words.specs.Forms.{vector}
+use Rattle.outline_words.proofs.RestLaws.{passed}
+use Rattle.outline_words.proofs.rest.Rest.vector.Goals as goal
+
+pub returns-clause-passed : goal.returns-clause-passed
+returns-clause-passed c = passed vector _ _ _ c.in_ok-word.ensures.ok.1 (search rules)
