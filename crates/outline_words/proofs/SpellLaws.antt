@@ -1,8 +1,8 @@
 -- Lemmas on the words of commands: they spell one order, or have one first wrong word.
-use Rattle.std.proofs.Common.{◌≡◌, ℕ, zero, suc, ◌<◌, ◌^◌, Bool, true, false, cond, List, [], ◌∷◌, drop, get_or, find, Option, None, Some, MatchOption, ◌⊎◌, lit<, refl, sym, ap, subst, ◌∙◌, inl, inr}
+use Rattle.std.proofs.Common.{◌≡◌, ℕ, zero, suc, Bool, true, false, cond, List, [], ◌∷◌, drop, get_or, find, Option, None, Some, MatchOption, ◌⊎◌, lit<, refl, sym, ap, subst, ◌∙◌, inl, inr}
 use Rattle.std.specs.Prelude.{bytes_eq}
 use Rattle.std.proofs.lemmas.Slice.Eq.{bytes_eq-Decides}
-use Rattle.outline_words.specs.Forms.{Form, Meant, IsMeant, word_of, HasForm}
+use Rattle.outline_words.specs.Forms.{Form, Meant, IsMeant, word_of}
 use Rattle.outline_words.specs.Table.{Order, Row, Saying, table, row_of, Say, Spell, IsWrongAt, FirstWrong}
 use Rattle.outline_words.proofs.FormLaws.{IsForm, settled_form, one_meant}
 

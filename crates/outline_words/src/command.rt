@@ -38,7 +38,10 @@ pub enum Command<'w> {
         i: u32,
     },
     /// Moves `child` into the trash.
-    Trash { name: &'w str, child: OpId },
+    Trash {
+        name: &'w str,
+        child: OpId,
+    },
     /// Puts a value under a key of a node.
     Put {
         name: &'w str,
@@ -94,13 +97,21 @@ pub enum Command<'w> {
         at: u32,
     },
     /// Makes a change without operations by each member that the file holds.
-    Ack { name: &'w str },
+    Ack {
+        name: &'w str,
+    },
     /// Shows the document.
-    Show { name: &'w str },
+    Show {
+        name: &'w str,
+    },
     /// Tells what the file holds.
-    Status { name: &'w str },
+    Status {
+        name: &'w str,
+    },
     /// Lists the changes of the file.
-    Log { name: &'w str },
+    Log {
+        name: &'w str,
+    },
     /// Makes a bundle of the changes past the counts of a vector.
     Bundle {
         name: &'w str,
@@ -108,13 +119,24 @@ pub enum Command<'w> {
         out: &'w str,
     },
     /// Takes the changes of a bundle.
-    Deliver { name: &'w str, bundle: &'w str },
+    Deliver {
+        name: &'w str,
+        bundle: &'w str,
+    },
     /// Drops the changes that every member has.
-    Trim { name: &'w str },
+    Trim {
+        name: &'w str,
+    },
     /// Makes a snapshot of the file.
-    Snapshot { name: &'w str, out: &'w str },
+    Snapshot {
+        name: &'w str,
+        out: &'w str,
+    },
     /// Gives a member up, which the file then holds no longer.
-    Release { name: &'w str, member: u8 },
+    Release {
+        name: &'w str,
+        member: u8,
+    },
     /// Makes a member's file from the file `source`.
     Begin {
         source: &'w str,
@@ -122,11 +144,17 @@ pub enum Command<'w> {
         name: &'w str,
     },
     /// Tells whether the file is one.
-    Check { name: &'w str },
+    Check {
+        name: &'w str,
+    },
     /// Prints the items of a file.
-    Items { name: &'w str },
+    Items {
+        name: &'w str,
+    },
     /// Runs a script.
-    Play { name: &'w str },
+    Play {
+        name: &'w str,
+    },
     /// Makes a sample of `size` rounds, drawn from `seed`.
     Sample {
         seed: u64,

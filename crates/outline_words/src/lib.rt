@@ -8,6 +8,8 @@ mod forms;
 pub mod laws;
 mod reading;
 mod rest;
+#[cfg(test)]
+mod tests;
 mod words;
 
 pub use command::{Command, WordFault, WordValue};

@@ -45,7 +45,12 @@ fn read_move(mut rest: Rest<'_>) -> Result<Command<'_>, WordFault>
     let parent = rest.node()?;
     let i = rest.place()?;
     rest.end()?;
-    Ok(Command::Move { name, child, parent, i })
+    Ok(Command::Move {
+        name,
+        child,
+        parent,
+        i,
+    })
 }
 
 fn read_trash(mut rest: Rest<'_>) -> Result<Command<'_>, WordFault>
@@ -71,7 +76,12 @@ fn read_put(mut rest: Rest<'_>) -> Result<Command<'_>, WordFault>
     let key = rest.key()?;
     let value = rest.value()?;
     rest.end()?;
-    Ok(Command::Put { name, node, key, value })
+    Ok(Command::Put {
+        name,
+        node,
+        key,
+        value,
+    })
 }
 
 fn read_unset(mut rest: Rest<'_>) -> Result<Command<'_>, WordFault>
@@ -98,7 +108,12 @@ fn read_type(mut rest: Rest<'_>) -> Result<Command<'_>, WordFault>
     let at = rest.place()?;
     let text = rest.text()?;
     rest.end()?;
-    Ok(Command::TypeText { name, node, at, text })
+    Ok(Command::TypeText {
+        name,
+        node,
+        at,
+        text,
+    })
 }
 
 fn read_erase(mut rest: Rest<'_>) -> Result<Command<'_>, WordFault>
@@ -112,7 +127,12 @@ fn read_erase(mut rest: Rest<'_>) -> Result<Command<'_>, WordFault>
     let at = rest.place()?;
     let count = rest.place()?;
     rest.end()?;
-    Ok(Command::Erase { name, node, at, count })
+    Ok(Command::Erase {
+        name,
+        node,
+        at,
+        count,
+    })
 }
 
 fn read_add(mut rest: Rest<'_>) -> Result<Command<'_>, WordFault>
@@ -126,7 +146,12 @@ fn read_add(mut rest: Rest<'_>) -> Result<Command<'_>, WordFault>
     let at = rest.place()?;
     let value = rest.value()?;
     rest.end()?;
-    Ok(Command::Add { name, node, at, value })
+    Ok(Command::Add {
+        name,
+        node,
+        at,
+        value,
+    })
 }
 
 fn read_shift(mut rest: Rest<'_>) -> Result<Command<'_>, WordFault>
@@ -140,7 +165,12 @@ fn read_shift(mut rest: Rest<'_>) -> Result<Command<'_>, WordFault>
     let from = rest.place()?;
     let to = rest.place()?;
     rest.end()?;
-    Ok(Command::Shift { name, node, from, to })
+    Ok(Command::Shift {
+        name,
+        node,
+        from,
+        to,
+    })
 }
 
 fn read_set(mut rest: Rest<'_>) -> Result<Command<'_>, WordFault>
@@ -154,7 +184,12 @@ fn read_set(mut rest: Rest<'_>) -> Result<Command<'_>, WordFault>
     let at = rest.place()?;
     let value = rest.value()?;
     rest.end()?;
-    Ok(Command::Set { name, node, at, value })
+    Ok(Command::Set {
+        name,
+        node,
+        at,
+        value,
+    })
 }
 
 fn read_drop(mut rest: Rest<'_>) -> Result<Command<'_>, WordFault>
@@ -229,7 +264,11 @@ fn read_begin(mut rest: Rest<'_>) -> Result<Command<'_>, WordFault>
     let member = rest.member()?;
     let name = rest.name()?;
     rest.end()?;
-    Ok(Command::Begin { source, member, name })
+    Ok(Command::Begin {
+        source,
+        member,
+        name,
+    })
 }
 
 fn read_sample(mut rest: Rest<'_>) -> Result<Command<'_>, WordFault>
@@ -269,19 +308,19 @@ pub(crate) fn read_command<'w>(
         "shift" => read_shift(rest),
         "set" => read_set(rest),
         "drop" => read_drop(rest),
-        "ack" => Ok(Command::Ack { name: rest.only_name()? }),
-        "show" => Ok(Command::Show { name: rest.only_name()? }),
-        "status" => Ok(Command::Status { name: rest.only_name()? }),
-        "log" => Ok(Command::Log { name: rest.only_name()? }),
+        "ack" => Ok(Command::Ack { name: rest.last()? }),
+        "show" => Ok(Command::Show { name: rest.last()? }),
+        "status" => Ok(Command::Status { name: rest.last()? }),
+        "log" => Ok(Command::Log { name: rest.last()? }),
         "bundle" => read_bundle(alloc, rest),
         "deliver" => read_deliver(rest),
-        "trim" => Ok(Command::Trim { name: rest.only_name()? }),
+        "trim" => Ok(Command::Trim { name: rest.last()? }),
         "snapshot" => read_snapshot(rest),
         "release" => read_release(rest),
         "begin" => read_begin(rest),
-        "check" => Ok(Command::Check { name: rest.only_name()? }),
-        "items" => Ok(Command::Items { name: rest.only_name()? }),
-        "play" => Ok(Command::Play { name: rest.only_name()? }),
+        "check" => Ok(Command::Check { name: rest.last()? }),
+        "items" => Ok(Command::Items { name: rest.last()? }),
+        "play" => Ok(Command::Play { name: rest.last()? }),
         "sample" => read_sample(rest),
         _ => Err(WordFault { word: 0 }),
     }
