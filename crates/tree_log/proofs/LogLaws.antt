@@ -1,5 +1,5 @@
 -- The laws of moves put in their places.
-use Rattle.std.specs.Prelude.{◌≡◌, ℕ, zero, suc, Bool, true, false, cond, ◌||◌, ◌⊎◌, Option, Some, None, is_some, List, [], ◌∷◌, ◌++◌, map, ◌+◌, ◌*◌, ◌≤◌, length, count_by, refl}
+use Rattle.std.specs.Prelude.{◌≡◌, ℕ, zero, suc, Bool, true, false, cond, ◌||◌, Some, is_some, List, [], ◌∷◌, ◌++◌, ◌+◌, ◌≤◌, length, count_by, refl}
 use Rattle.std.proofs.Common.{sym, ◌∙◌, ap, subst, inl, inr, arith, ⊎_elim}
 use Rattle.std.specs.Prelude.{drop, take, ◌<◌, ◌-◌, nat_lt, nat_le, filter}
 use Rattle.std.proofs.lemmas.Bool.Decides.{nat_tests}
@@ -8,22 +8,21 @@ use Rattle.std.proofs.Common.{get_or}
 use Rattle.std.proofs.lemmas.List.{map-append, drop_more, drop_all, get_or_default, append_assoc, take-append-drop, length-map, take_more}
 use Rattle.std.proofs.lemmas.List.Sums.{sum_by-append}
 use Rattle.std.specs.Bool.{OnTrue, OnFalse}
-use Rattle.std.specs.FinSet.{FinSet, contains, contains-insert, insert as set_insert}
+use Rattle.std.specs.FinSet.{FinSet, contains, insert as set_insert}
 use Rattle.std.specs.List.{AllByRecursion, list_any}
 use Rattle.std.specs.Ordering.{is_lt, is_eq, ordering_reverse}
-use Rattle.std.specs.Cmp.{tied_itself}
-use Rattle.std.specs.FinMap.{get, insert, len, get-insert, same_map}
+use Rattle.std.specs.FinMap.{get, insert, len, same_map}
 use Rattle.std.specs.declared.cmp.Ordering.{Ordering}
 use Rattle.std.specs.declared.cmp.Ordering.TheVariants.{Less, Equal, Greater}
 use Rattle.op_ids.specs.declared.OpId.{OpId}
 use Rattle.op_ids.specs.Order.{id_cmp, id_eq, id_lt}
 use Rattle.op_ids.proofs.OrderLaws.{id_cmp_total, id_cmp_exact, id_eq-exact, id_eq-itself, same_or_apart, id_equiv, eq_by_cmp-id, lt_trans, lt_itself}
-use Rattle.model.specs.State.{Place, is_fixed, above_within, parent_is, is_above, moved}
+use Rattle.model.specs.State.{Place, is_fixed, is_above, moved}
 use Rattle.model_laws.specs.Tree.{Places, IsTree}
-use Rattle.model_laws.proofs.TreeLaws.{bool_cases, true_or, or_cases, move_keeps_tree, tree_node, get-inserted, above_known}
+use Rattle.model_laws.proofs.TreeLaws.{bool_cases, true_or, or_cases, move_keeps_tree, get-inserted, above_known}
 use Rattle.outside.specs.Work.{Work}
 use Rattle.outside.specs.Faults.{raised}
-use Rattle.tree_move.specs.Parents.{is_node, with_place, place_if, kept_place}
+use Rattle.tree_move.specs.Parents.{with_place, place_if, kept_place}
 use Rattle.tree_move.proofs.PlaceLaws.{get-with_place, with_place_same, contains-inserted, place_if-kept}
 use Rattle.tree_log.specs.declared.moves.TreeMove.{TreeMove}
 use Rattle.tree_log.specs.declared.moves.Held.{Held}

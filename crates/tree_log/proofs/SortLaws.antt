@@ -1,17 +1,16 @@
 -- Moves in the order of their ids.
-use Rattle.std.specs.Prelude.{◌≡◌, Bool, true, false, cond, ◌||◌, ◌&&◌, ◌⊎◌, Option, Some, None, List, [], ◌∷◌, ◌++◌, fold, filter, filter_map, refl}
-use Rattle.std.proofs.Common.{sym, ◌∙◌, ap, subst, inl, inr, ⊎_elim, append-nil}
+use Rattle.std.specs.Prelude.{◌≡◌, Bool, true, false, cond, ◌||◌, ◌&&◌, List, [], ◌∷◌, ◌++◌, refl}
+use Rattle.std.proofs.Common.{sym, ◌∙◌, ap, subst, ⊎_elim, append-nil}
 use Rattle.std.proofs.lemmas.List.Sorted.{IsPermutation-refl, IsPermutation-cons, IsPermutation-trans, IsPermutation-sym, IsPermutation-middle, IsPermutation-append_left, list_any-IsPermutation}
 use Rattle.std.specs.List.{AllByRecursion, list_any}
 use Rattle.std.specs.List.Sorted.{IsPermutation}
-use Rattle.op_ids.specs.declared.OpId.{OpId}
 use Rattle.op_ids.specs.Order.{id_eq, id_lt}
 use Rattle.op_ids.proofs.OrderLaws.{id_eq-exact, id_eq-itself, lt_not_back, lt_apart, lt_trans}
 use Rattle.model.specs.Change.{placed}
 use Rattle.model_laws.proofs.ListLaws.{filter_all, filter_none}
-use Rattle.model_laws.proofs.TreeLaws.{or_cases, true_or}
+use Rattle.model_laws.proofs.TreeLaws.{or_cases}
 use Rattle.tree_log.specs.declared.moves.TreeMove.{TreeMove}
-use Rattle.tree_log.specs.Moves.{move_before, Rises, inserted, IsFresh, AreInOrder, InsertionSorts, OneOrder}
+use Rattle.tree_log.specs.Moves.{move_before, Rises, inserted, IsFresh, InsertionSorts, OneOrder}
 use Rattle.tree_log.specs.Merge.{put_in, merged}
 use Rattle.tree_log.proofs.LogLaws.{lt_other, rises_put, fresh_put, rises_merged, true_false}
 

@@ -1,23 +1,22 @@
 -- The model's node steps are moves.
-use Rattle.std.specs.Prelude.{◌≡◌, Bool, true, false, cond, ◌||◌, ◌⊎◌, Option, Some, None, is_some, List, [], ◌∷◌, ◌++◌, fold, filter, filter_map, refl}
+use Rattle.std.specs.Prelude.{◌≡◌, Bool, true, false, cond, Some, None, List, [], ◌∷◌, ◌++◌, fold, filter, refl}
 use Rattle.std.specs.List.{AllByRecursion, cons_option}
 use Rattle.std.proofs.Common.{sym, ◌∙◌, ap, inl, inr, subst}
-use Rattle.std.specs.FinMap.{get, insert, len}
+use Rattle.std.specs.FinMap.{insert, len}
 use Rattle.std.proofs.lemmas.List.Elements.{filter_map-append}
 use Rattle.op_ids.specs.declared.OpId.{OpId}
 use Rattle.op_ids.specs.Order.{id_lt}
 use Rattle.op_ids.proofs.OrderLaws.{lt_trans, lt_not_back}
-use Rattle.model.specs.Change.{placed}
-use Rattle.model_laws.specs.Arrival.{atom_before, nodes_moved, Rises, IsFresh}
+use Rattle.model_laws.specs.Arrival.{atom_before, Rises, IsFresh}
 use Rattle.model_laws.proofs.ListLaws.{filter_all, filter_none}
-use Rattle.model.specs.Operation.{Anchor, Operation, new_node, move_node, put_key, type_text, erase_text, add_item, shift_item, set_item, drop_item}
-use Rattle.model.specs.State.{Atom, Place, node_step, is_fixed, is_above, moved}
+use Rattle.model.specs.Operation.{Operation, new_node, move_node, put_key, type_text, erase_text, add_item, shift_item, set_item, drop_item}
+use Rattle.model.specs.State.{Atom, node_step, is_above}
 use Rattle.model_laws.specs.Tree.{Places, IsTree}
 use Rattle.model_laws.proofs.TreeLaws.{bool_cases, above_known}
 use Rattle.tree_log.specs.declared.moves.TreeMove.{TreeMove}
 use Rattle.tree_log.specs.Log.{AreMovesIn, IsMoveIn}
 use Rattle.tree_log.specs.Moves.{inserted, after_moves, after_move, place_by, has_place}
-use Rattle.tree_log.specs.Steps.{move_by, moves_of, IsNewIn, AreNew, NodeStepsAreMoves, MovesArrive}
+use Rattle.tree_log.specs.Steps.{move_by, moves_of, AreNew, NodeStepsAreMoves, MovesArrive}
 use Rattle.tree_log.proofs.LogLaws.{after_move_tree, fits_rest, lt_other}
 
 -- a new node is above nothing

@@ -1,8 +1,7 @@
-use Rattle.std.proofs.Common.{◌≡◌, ◌∙◌, ap, sym, refl, subst, true, take, ◌+◌, is_some, get_or, not}
+use Rattle.std.proofs.Common.{◌≡◌, ◌∙◌, ap, sym, subst, true, take, ◌+◌, is_some, get_or, not}
 use Rattle.std.specs.List.{AllByRecursion}
 use Rattle.std.specs.FinSet as set
 use Rattle.op_ids.specs.Order.{id_cmp}
-use Rattle.tree_move.specs.Parents.{Nodes, IsTreeOfAdmitted}
 use Rattle.tree_log.specs.declared.moves.TreeMove.{TreeMove}
 use Rattle.tree_log.proofs.LogLaws.{all_take_more, admitted_more, admitted_same, no_move}
 use Rattle.tree_move.proofs.PlaceLaws.{some-place_if}

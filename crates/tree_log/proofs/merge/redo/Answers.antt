@@ -1,4 +1,4 @@
-use Rattle.std.proofs.Common.{◌≡◌, ◌∙◌, ap, sym, refl, subst, arith, drop, ◌++◌, List, vec_len, length, length-append, ◌+◌, ◌<◌, ◌∷◌}
+use Rattle.std.proofs.Common.{subst, arith, ◌++◌, List}
 use Rattle.tree_log.specs.declared.moves.TreeMove.{TreeMove}
 use Rattle.tree_log.specs.Log.{undone, steps}
 use Rattle.tree_log.specs.Merge.{Redo, merged}

@@ -1,6 +1,6 @@
-use Rattle.std.proofs.Common.{◌≡◌, ◌≤◌, ◌+◌, ◌-◌, ◌++◌, length, drop, vec_len, vec_capacity}
+use Rattle.std.proofs.Common.{◌≤◌, ◌+◌, ◌-◌, ◌++◌, length, drop, vec_len, vec_capacity}
 use Rattle.tree_move.specs.Parents.{IsTreeOfAdmitted}
-use Rattle.tree_log.specs.Log.{IsLog, undone, steps}
+use Rattle.tree_log.specs.Log.{undone, steps}
 use Rattle.tree_log.specs.Merge.{Redo, merged}
 use Rattle.tree_log.specs.Moves.{Rises, Worked}
 use Rattle.tree_log.proofs.merge.redo.Given as goal

@@ -1,4 +1,4 @@
-use Rattle.std.proofs.Common.{◌≡◌, ◌∙◌, ◌<◌, ap, sym, refl, arith, length}
+use Rattle.std.proofs.Common.{◌∙◌, sym, arith}
 use Rattle.tree_log.specs.Merge.{NextOld, NextNew}
 use Rattle.tree_log.proofs.LogLaws.{next_old, next_old_alone, next_new, next_new_alone, on_true, on_false, at_defaults}
 use Rattle.tree_log.proofs.merge.takes_old.Goals as goal

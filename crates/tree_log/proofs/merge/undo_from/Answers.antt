@@ -1,7 +1,5 @@
-use Rattle.std.proofs.Common.{◌≡◌, ◌∙◌, ap, sym, refl, subst, ◌++◌, ◌∷◌, [], List, ◌≤◌, ◌-◌, ℕ, take, vec_len, arith}
+use Rattle.std.proofs.Common.{◌≡◌, ◌∙◌, ap, sym, subst, ◌++◌, ◌∷◌, [], ◌≤◌, ◌-◌, take, vec_len, arith}
 use Rattle.std.proofs.lemmas.List.{take-take}
-use Rattle.model_laws.specs.Tree.{IsTree}
-use Rattle.tree_log.specs.declared.moves.Held.{Held}
 use Rattle.tree_log.specs.Log.{IsLog, undone}
 use Rattle.tree_log.proofs.LogLaws.{log_pop, log_tree, last_known, worked_tick, worked_within}
 use Rattle.tree_log.proofs.merge.undo_from.Goals as goal

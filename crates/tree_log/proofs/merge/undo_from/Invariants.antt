@@ -1,4 +1,4 @@
-use Rattle.std.proofs.Common.{◌≡◌, ◌≤◌, ◌+◌, ◌-◌, true, length, take, vec_len, vec_capacity}
+use Rattle.std.proofs.Common.{◌≡◌, ◌≤◌, ◌-◌, take, vec_len, vec_capacity}
 use Rattle.tree_move.specs.Parents.{IsTreeOfAdmitted}
 use Rattle.tree_log.specs.Log.{IsLog, undone}
 use Rattle.tree_log.specs.Moves.{Worked}

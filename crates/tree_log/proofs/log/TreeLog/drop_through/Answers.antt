@@ -1,10 +1,8 @@
-use Rattle.std.proofs.Common.{◌≡◌, ◌∙◌, ap, sym, refl, subst, List, rules}
+use Rattle.std.proofs.Common.{◌≡◌, ◌∙◌, ap, sym, subst, rules}
 use Rattle.std.specs.Prelude.{filter, nat_le, nat_lt}
 use Rattle.std.proofs.lemmas.Fn.{filter_same}
-use Rattle.model_laws.specs.Tree.{Places}
 use Rattle.tree_log.specs.declared.moves.TreeMove.{TreeMove}
-use Rattle.tree_log.specs.declared.moves.Held.{Held}
-use Rattle.tree_log.specs.Log.{IsLog, IsKept, undone, steps}
+use Rattle.tree_log.specs.Log.{IsLog, undone, steps}
 use Rattle.tree_log.specs.Moves.{Log, after_moves, places_now}
 use Rattle.tree_log.proofs.LogLaws.{kept_at, log_kept, log_base, steps_kept}
 use Rattle.tree_log.proofs.log.TreeLog.drop_through.Goals as goal

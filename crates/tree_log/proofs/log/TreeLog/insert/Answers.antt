@@ -1,16 +1,14 @@
-use Rattle.std.proofs.Common.{◌≡◌, ◌∙◌, ap, sym, refl, subst, true, false, take, drop, length, ℕ, ◌+◌, ◌≤◌, ◌<◌, ◌-◌, ◌*◌, ◌++◌, ◌∷◌, arith, is_some, List, get_or, vec_len, length-drop}
+use Rattle.std.proofs.Common.{◌≡◌, ◌∙◌, ap, sym, subst, true, take, drop, length, ◌+◌, ◌≤◌, ◌-◌, ◌++◌, ◌∷◌, arith, is_some, List, get_or, length-drop}
 use Rattle.std.proofs.lemmas.List.{take_rest, length-map}
 use Rattle.std.specs.List.{AllByRecursion}
 use Rattle.std.specs.FinMap as map
 use Rattle.std.specs.FinSet as set
-use Rattle.op_ids.specs.declared.OpId.{OpId}
 use Rattle.op_ids.specs.Order.{id_lt}
 use Rattle.model_laws.specs.Tree.{Places}
-use Rattle.tree_move.specs.Parents.{Nodes, IsTreeOfAdmitted}
 use Rattle.tree_log.specs.declared.moves.TreeMove.{TreeMove}
 use Rattle.tree_log.specs.declared.moves.Held.{Held}
-use Rattle.tree_log.specs.Log.{IsLog, IsKept, undone, steps}
-use Rattle.tree_log.specs.Merge.{Redo, merged}
+use Rattle.tree_log.specs.Log.{IsLog, undone, steps}
+use Rattle.tree_log.specs.Merge.{merged}
 use Rattle.tree_log.specs.Moves.{Log, Rises, AllReferBack, IsFresh, has_place, places_now, later_count}
 use Rattle.tree_log.proofs.LogLaws.{first_cons, early_moves, todo, all_moves, later_rise, joins_below, log_base, later_bound, worked_then, worked_within}
 use Rattle.tree_log.proofs.SortLaws.{inserted_merged}
