@@ -1,19 +1,19 @@
 -- The laws of places that are kept in slots.
-use Rattle.std.specs.Prelude.{◌≡◌, ℕ, zero, suc, ◌<◌, ◌≤◌, Bool, true, false, cond, ◌||◌, Option, Some, None, is_some, List, [], ◌∷◌, map, refl, ◌⊎◌}
-use Rattle.std.proofs.Common.{sym, ◌∙◌, ap, subst, inl, inr, arith, ⊎_elim, rules, not}
+use Rattle.std.specs.Prelude.{◌≡◌, ℕ, zero, suc, ◌<◌, ◌≤◌, Bool, true, false, cond, ◌||◌, Option, Some, None, is_some, List, [], ◌∷◌, map, refl}
+use Rattle.std.proofs.Common.{sym, ◌∙◌, ap, inl, inr, arith, ⊎_elim, not}
 use Rattle.std.specs.Map.{lookup}
 use Rattle.std.specs.List.{list_any}
 use Rattle.std.specs.Ordering.{eq_by_cmp}
 use Rattle.std.specs.Cmp.{eq_by_cmp_equiv}
-use Rattle.std.specs.FinMap.{FinMap, get, insert, remove, len, empty, get-empty, get-insert, get-remove, same_map}
+use Rattle.std.specs.FinMap.{get, insert, len, get-empty, get-remove, same_map}
 use Rattle.std.specs.FinSet as set
-use Rattle.std.specs.FinSet.{FinSet, contains, from_list, contains-from_list, contains-insert, same_set}
+use Rattle.std.specs.FinSet.{FinSet, contains, contains-from_list, contains-insert, same_set}
 use Rattle.op_ids.specs.declared.OpId.{OpId}
 use Rattle.op_ids.specs.Order.{id_cmp, id_eq}
 use Rattle.op_ids.proofs.OrderLaws.{eq_by_cmp-id, id_cmp_total, id_cmp_exact, id_eq-exact, id_eq-itself, same_or_apart, id_equiv}
 use Rattle.model.specs.State.{Place, is_fixed, is_above, above_within, parent_is, moved}
 use Rattle.model_laws.specs.Tree.{Places, IsTree}
-use Rattle.model_laws.proofs.TreeLaws.{bool_cases, true_or, Ranked, tree_from_ranks, above_itself, above_top, above_step, above_known, or_cases, tree_leads, tree_node, tree_ranks, steps_up, get-inserted}
+use Rattle.model_laws.proofs.TreeLaws.{bool_cases, true_or, Ranked, above_itself, above_top, above_step, above_known, or_cases, tree_leads, tree_node, tree_ranks, steps_up, get-inserted}
 use Rattle.tree_move.specs.declared.places.Place as code
 use Rattle.tree_move.specs.Parents.{with_place, places_of, nodes_of, Nodes, IsTreeOfAdmitted, Slot, place_if, kept_place, is_node}
 use Rattle.tree_move.specs.Moves.{UndoGivesBack, HasNoCycle}

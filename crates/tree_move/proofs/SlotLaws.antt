@@ -1,33 +1,31 @@
 -- Slots in order, as rows.
-use Rattle.std.specs.Prelude.{◌≡◌, ℕ, ◌<◌, ◌+◌, Bool, true, false, cond, Option, Some, None, List, [], ◌∷◌, ◌++◌, length, map, take, drop, filter_map, refl}
+use Rattle.std.specs.Prelude.{◌≡◌, ℕ, ◌<◌, ◌+◌, Bool, true, false, cond, Some, None, List, [], ◌∷◌, ◌++◌, length, map, take, drop, filter_map, refl}
 use Rattle.std.specs.List.{cons_option, list_any}
 use Rattle.std.specs.Map.{lookup}
-use Rattle.std.specs.Prelude.{is_some, ◌||◌, ◌⊎◌, ◌&&◌}
+use Rattle.std.specs.Prelude.{is_some, ◌||◌, ◌&&◌}
 use Rattle.std.proofs.Common.{T}
-use Rattle.std.specs.FinSet.{FinSet, contains, contains-from_list}
+use Rattle.std.specs.FinSet.{contains, contains-from_list}
 use Rattle.std.proofs.Common.{get_or, inl, inr}
 use Rattle.std.proofs.lemmas.List.{map-append, take_more, drop_more, take-append-drop}
 use Rattle.std.proofs.Common.{sym, ◌∙◌, ap, subst}
 use Rattle.std.specs.Map.{keys_of}
 use Rattle.std.specs.List.{AllByRecursion}
 use Rattle.std.specs.List.Sorted.{IsStrictlySortedBy}
-use Rattle.std.specs.Ordering.{eq_by_cmp, is_eq}
-use Rattle.std.specs.FinMap.{FinMap, get, insert, remove, empty, entries, from_entries, from_entries_push, get-empty, same_map, find, get-entries, get-from_entries, entries_sorted, is_sorted}
+use Rattle.std.specs.FinMap.{get, insert, remove, entries, from_entries, from_entries_push, same_map, find, get-entries, get-from_entries, entries_sorted, is_sorted}
 use Rattle.std.specs.FinMap.Entries.{below_all}
 use Rattle.std.specs.FinSet as set
 use Rattle.std.specs.declared.cmp.Ordering.TheVariants.{Less, Greater}
 use Rattle.op_ids.specs.declared.OpId.{OpId}
 use Rattle.op_ids.specs.Order.{id_cmp, id_eq}
-use Rattle.op_ids.proofs.OrderLaws.{eq_by_cmp-id, id_cmp_total, id_cmp_exact, less_from_is_lt}
+use Rattle.op_ids.proofs.OrderLaws.{id_cmp_total, id_cmp_exact, less_from_is_lt}
 use Rattle.model.specs.State.{Place}
 use Rattle.model_laws.specs.Tree.{Places}
 use Rattle.model_laws.proofs.KeptTables.{entries_are, get_is_lookup, none_among, below_next}
 use Rattle.tree_move.specs.declared.places.NodeRow.{NodeRow}
-use Rattle.tree_move.specs.declared.places.Place as code
 use Rattle.model.specs.State.{is_fixed}
 use Rattle.model_laws.specs.Tree.{IsTree}
 use Rattle.model_laws.proofs.TreeLaws.{bool_cases}
-use Rattle.tree_move.specs.Parents.{Nodes, IsTreeOfAdmitted, Slot, with_place, places_of, place_if, slot_entry, slot_row, slot_child, row_of, child_of, entry_of}
+use Rattle.tree_move.specs.Parents.{Nodes, IsTreeOfAdmitted, Slot, places_of, slot_entry, slot_row, slot_child, row_of, child_of, entry_of}
 use Rattle.tree_move.specs.Moves.{RowsComeBack}
 use Rattle.tree_move.proofs.PlaceLaws.{with_place_same, tied}
 

@@ -1,6 +1,6 @@
 -- The places of nodes: as contracts see them, and as the code keeps them.
 use Rattle.std.specs.Prelude.{◌≡◌, Bool, true, false, cond, ◌||◌, Option, Some, None, is_some, List, [], ◌∷◌, map, refl}
-use Rattle.std.specs.FinMap.{FinMap, get, insert, remove, empty, code as map_code}
+use Rattle.std.specs.FinMap.{get, insert, remove, empty, code as map_code}
 use Rattle.std.specs.FinSet.{FinSet, contains, from_list, code as set_code}
 use Rattle.std.specs.Coded.{Coded, code_by, coded×}
 use Rattle.op_ids.specs.declared.OpId.{OpId}

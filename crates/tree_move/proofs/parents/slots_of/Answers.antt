@@ -1,4 +1,4 @@
-use Rattle.std.proofs.Common.{◌≡◌, ◌∙◌, ap, sym, take, map, get_or}
+use Rattle.std.proofs.Common.{◌∙◌, ap, sym, take, map, get_or}
 use Rattle.std.specs.Prelude.{Some}
 use Rattle.std.specs.FinMap as fin
 use Rattle.std.specs.FinSet as set

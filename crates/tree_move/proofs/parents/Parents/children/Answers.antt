@@ -1,4 +1,4 @@
-use Rattle.std.proofs.Common.{◌≡◌, ◌∙◌, ap, sym}
+use Rattle.std.proofs.Common.{◌∙◌, ap, sym}
 use Rattle.std.specs.Prelude.{filter_map}
 use Rattle.std.specs.FinMap as fin
 use Rattle.tree_move.specs.Parents.{Nodes, child_of}

@@ -1,4 +1,4 @@
-use Rattle.std.proofs.Common.{◌≡◌, ◌∙◌, ap, sym, true, false, Some, None}
+use Rattle.std.proofs.Common.{◌∙◌, ap, sym}
 use Rattle.tree_move.specs.Parents.{place_of, place_if}
 use Rattle.tree_move.proofs.PlaceLaws.{climb_more, climb_end, climb_falls, climb_here, ne-apart, ne-same}
 use Rattle.tree_move.proofs.parents.Parents.is_above.Goals as goal

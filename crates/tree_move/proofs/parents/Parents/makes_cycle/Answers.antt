@@ -1,5 +1,4 @@
-use Rattle.std.proofs.Common.{◌≡◌, ◌∙◌, ap, sym, true, false, Option, Some, None, is_some}
-use Rattle.model.specs.State.{Place}
+use Rattle.std.proofs.Common.{◌∙◌, sym}
 use Rattle.tree_move.specs.Parents.{place_if}
 use Rattle.tree_move.proofs.PlaceLaws.{not_above, some-place_if, none_from_is_some}
 use Rattle.tree_move.proofs.parents.Parents.makes_cycle.Goals as goal

@@ -1,5 +1,3 @@
-use Rattle.std.proofs.Common.{subst, sym}
-use Rattle.tree_move.specs.Parents.{nodes_of, IsTreeOfAdmitted}
 use Rattle.tree_move.proofs.PlaceLaws.{none_are_tree}
 use Rattle.tree_move.proofs.parents.Parents.new.Goals as goal
 

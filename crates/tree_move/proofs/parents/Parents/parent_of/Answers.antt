@@ -1,4 +1,4 @@
-use Rattle.std.proofs.Common.{rules, ◌≡◌, ◌∙◌, ap, sym, refl}
+use Rattle.std.proofs.Common.{◌∙◌, ap, sym}
 use Rattle.std.specs.FinMap as map
 use Rattle.tree_move.specs.Parents.{Nodes}
 use Rattle.tree_move.proofs.PlaceLaws.{joined, get-places_of}

@@ -1,6 +1,5 @@
-use Rattle.std.proofs.Common.{◌≡◌, ◌∙◌, ap, sym, refl, true, false, subst, None, is_some}
+use Rattle.std.proofs.Common.{◌≡◌, ◌∙◌, ap, sym, true, subst, is_some}
 use Rattle.std.specs.Map.{lookup}
-use Rattle.std.specs.FinMap as map
 use Rattle.std.specs.FinSet as set
 use Rattle.tree_move.specs.Parents.{Nodes, IsTreeOfAdmitted, nodes_of, with_place, place_if}
 use Rattle.tree_move.proofs.PlaceLaws.{nodes_written, put_keeps_tree, tied, contains-nodes_of, insert_member, none_there}

@@ -1,4 +1,4 @@
-use Rattle.std.proofs.Common.{◌≡◌, ◌∙◌, ap, sym, map}
+use Rattle.std.proofs.Common.{◌∙◌, ap, sym, map}
 use Rattle.std.specs.FinMap as fin
 use Rattle.tree_move.specs.Parents.{Nodes, row_of}
 use Rattle.tree_move.proofs.SlotLaws.{entries_placed, rows_placed}

@@ -1,4 +1,3 @@
-use Rattle.std.proofs.Common.{◌∙◌, ap, sym, subst}
 use Rattle.tree_move.proofs.SlotLaws.{rows_come_back}
 use Rattle.tree_move.proofs.parents.tests.made_again.Goals as goal
 

@@ -1,8 +1,7 @@
 use Rattle.std.proofs.Common.{◌∙◌, ap}
 use Rattle.std.specs.FinSet as set
-use Rattle.op_ids.specs.Order.{id_eq, id_cmp}
-use Rattle.op_ids.proofs.OrderLaws.{id_eq-itself}
-use Rattle.tree_move.proofs.PlaceLaws.{contains-inserted, insert_has}
+use Rattle.op_ids.specs.Order.{id_cmp}
+use Rattle.tree_move.proofs.PlaceLaws.{insert_has}
 use Rattle.tree_move.proofs.parents.tests.moved_below.Goals as goal
 
 pub do_move-requires-2-clause-admitted : goal.do_move-requires-2-clause-admitted

@@ -1,7 +1,3 @@
-use Rattle.std.proofs.Common.{◌∙◌, ap, sym, subst}
-use Rattle.model.specs.State.{moved}
-use Rattle.model_laws.specs.Tree.{IsTree}
-use Rattle.tree_move.specs.Parents.{with_place, place_of}
 use Rattle.tree_move.proofs.PlaceLaws.{undo_gives_back}
 use Rattle.tree_move.proofs.parents.tests.there_and_back.Goals as goal
 
