@@ -1,20 +1,20 @@
 -- The children of a row or the head, as a range of the children by what they hang on.
-use Rattle.std.specs.Prelude.{◌≡◌, ℕ, zero, suc, Bool, true, false, not, ◌&&◌, ◌||◌, Option, Some, None, List, [], ◌∷◌, map, filter, refl, ◌⊎◌, IsTrue, IfSome, nat_lt, ◌==◌, cond}
+use Rattle.std.specs.Prelude.{◌≡◌, ℕ, zero, suc, Bool, true, false, not, ◌&&◌, Some, None, List, [], ◌∷◌, map, filter, refl, ◌⊎◌, IfSome, nat_lt, ◌==◌, cond}
 use Rattle.std.proofs.Common.{arith, sym, ◌∙◌, ap, subst, inl, inr}
 use Rattle.std.proofs.lemmas.Bool.Decides.{nat_tests}
-use Rattle.std.specs.List.{slice_get, list_any, AllByRecursion}
+use Rattle.std.specs.List.{slice_get, AllByRecursion}
 use Rattle.std.specs.List.Sorted.{IsStrictlySortedBy}
-use Rattle.std.specs.Ordering.{nat_cmp, bool_cmp, ordering_then, ordering_reverse, is_lt, is_gt, is_le, is_eq, eq_by_cmp}
+use Rattle.std.specs.Ordering.{nat_cmp, bool_cmp, ordering_then, ordering_reverse, is_lt, is_gt, is_le, is_eq}
 use Rattle.std.specs.Cmp.{tied_itself}
 use Rattle.std.specs.declared.cmp.Ordering.{Ordering}
 use Rattle.std.specs.declared.cmp.Ordering.TheVariants.{Less, Equal, Greater}
 use Rattle.std.specs.declared.ops.Bound.TheVariants.{Included, Unbounded}
-use Rattle.std.specs.BTreeSet.{BTreeSet, contains, keys_between, IsKeyInRange, IsKeyRangeOf}
+use Rattle.std.specs.BTreeSet.{BTreeSet, contains, IsKeyInRange, IsKeyRangeOf}
 use Rattle.std.specs.BTreeMap.Range.{IsLeBy, IsInRange, range_contains}
 use Rattle.op_ids.specs.declared.OpId.{OpId}
 use Rattle.op_ids.specs.declared.Side.{Side}
 use Rattle.op_ids.specs.declared.Side.TheVariants.{Left, Right}
-use Rattle.op_ids.specs.Order.{id_cmp, id_eq, id_lt, root_id}
+use Rattle.op_ids.specs.Order.{id_cmp, id_lt, root_id}
 use Rattle.op_ids.proofs.OrderLaws.{id_cmp_total, id_cmp_exact, equal_from_is_eq}
 use Rattle.fugue_tree.specs.declared.children.Child.{Child}
 use Rattle.fugue_tree.specs.Tree.{child_cmp, child_eq, right_side, at, is_child_of, IsFirstAt}

@@ -1,7 +1,7 @@
 -- A tree with one row more, and one from which it was taken back.
-use Rattle.std.specs.Prelude.{◌≡◌, ◌≢◌, Bool, true, false, cond, ◌||◌, Option, Some, None, is_some, refl, ◌⊎◌, Result, Ok, Err, OnOk, OnErr, []}
+use Rattle.std.specs.Prelude.{◌≡◌, ◌≢◌, Bool, true, false, cond, Option, Some, None, is_some, refl, Result, Ok, Err, OnOk, OnErr, []}
 use Rattle.std.specs.Result.{is_err}
-use Rattle.std.proofs.Common.{sym, ◌∙◌, ap, subst, inl, inr}
+use Rattle.std.proofs.Common.{sym, ◌∙◌, ap, inl, inr}
 use Rattle.std.specs.Ordering.{ordering_then, bool_cmp, is_eq}
 use Rattle.std.specs.declared.cmp.Ordering.{Ordering}
 use Rattle.std.specs.declared.cmp.Ordering.TheVariants.{Less, Equal, Greater}
@@ -9,14 +9,13 @@ use Rattle.std.specs.BTreeSet.{BTreeSet, contains}
 use Rattle.op_ids.specs.declared.OpId.{OpId}
 use Rattle.op_ids.specs.declared.Side.{Side}
 use Rattle.op_ids.specs.Order.{id_cmp, root_id}
-use Rattle.op_ids.proofs.OrderLaws.{eq_by_cmp-id, id_equiv}
 use Rattle.model.specs.Operation.{Anchor}
 use Rattle.model.specs.Walk.{Rows}
 use Rattle.walk_laws.specs.Insertion.{anchor_of, is_row, HangsWell, IsInsertionTree, with_row}
 use Rattle.walk_laws.proofs.Walks.{key_eq, key_itself, key_cases, key_equiv}
 use Rattle.walk_laws.proofs.InsertionLaws.{tree_with, found_with}
 use Rattle.fugue_tree.specs.declared.children.Child.{Child}
-use Rattle.fugue_tree.specs.Tree.{at, child_cmp, child_eq, is_child_of, hangs_so, IsKept}
+use Rattle.fugue_tree.specs.Tree.{at, child_cmp, child_eq, hangs_so, IsKept}
 
 pub from_err : {T E P : Type 0} (r : Result T E) → is_err r ≡ true → OnErr r P → P
 from_err (Ok x) e h = cc

@@ -1,6 +1,6 @@
 -- The first child of a row, and the place of a row that is to stand after another.
-use Rattle.std.specs.Prelude.{◌≡◌, ℕ, zero, suc, ◌<◌, ◌≤◌, Bool, true, false, cond, Option, Some, None, List, [], ◌∷◌, length, refl, ◌⊎◌}
-use Rattle.std.proofs.Common.{sym, ◌∙◌, ap, subst, inl, inr, arith}
+use Rattle.std.specs.Prelude.{◌≡◌, ℕ, suc, ◌<◌, ◌≤◌, Bool, true, false, Option, Some, None, [], ◌∷◌, length, refl}
+use Rattle.std.proofs.Common.{sym, ◌∙◌, ap, inl, inr, arith}
 use Rattle.std.specs.List.{list_any}
 use Rattle.std.specs.BTreeSet.{BTreeSet, contains}
 use Rattle.op_ids.specs.declared.OpId.{OpId}
@@ -11,11 +11,11 @@ use Rattle.op_ids.proofs.OrderLaws.{lt_trans, lt_itself}
 use Rattle.model.specs.Operation.{Anchor}
 use Rattle.model.specs.Walk.{Rows, hangs, place_after}
 use Rattle.walk_laws.specs.Insertion.{anchor_of, IsInsertionTree, HeadOrRow, LeastChild, Leftmost}
-use Rattle.walk_laws.proofs.Walks.{key_cases, key_eq}
+use Rattle.walk_laws.proofs.Walks.{key_cases}
 use Rattle.walk_laws.proofs.TreeWalks.{lesser}
 use Rattle.walk_laws.proofs.InsertionLaws.{child_found, leftmost_stands_next}
 use Rattle.fugue_tree.specs.declared.children.Child.{Child}
-use Rattle.fugue_tree.specs.Tree.{at, child_cmp, right_side, is_child_of, hangs_so, IsKept, IsFirstAt, IsFirstChild}
+use Rattle.fugue_tree.specs.Tree.{at, child_cmp, hangs_so, IsKept, IsFirstAt, IsFirstChild}
 use Rattle.fugue_tree.proofs.ChildLaws.{sides_same, child_is, is_child_of-at}
 
 abbrev there_at : OpId → Side → Anchor

@@ -1,23 +1,22 @@
 -- Rows as they are kept.
-use Rattle.std.specs.Prelude.{◌≡◌, ℕ, Bool, true, false, cond, ◌&&◌, Option, Some, None, is_some, List, [], ◌∷◌, ◌++◌, map, refl, ◌⊎◌, ◌≢◌}
+use Rattle.std.specs.Prelude.{◌≡◌, ℕ, true, false, cond, Option, Some, None, is_some, List, [], ◌∷◌, ◌++◌, map, refl, ◌≢◌}
 use Rattle.std.proofs.Common.{sym, ◌∙◌, ap, subst, inl, inr, suc, ◌+◌, ◌<◌, length, get_or, take, drop, drop-cons}
 use Rattle.std.proofs.lemmas.List.{map-append, take-append-drop, take_more}
 use Rattle.std.specs.Map.{lookup}
 use Rattle.std.specs.List.{AllByRecursion}
-use Rattle.std.specs.Ordering.{eq_by_cmp, match_ordering, is_lt, ordering_reverse}
+use Rattle.std.specs.Ordering.{match_ordering, ordering_reverse}
 use Rattle.std.specs.BTreeMap.{insert_entry}
-use Rattle.std.specs.FinMap.{find, put, is_sorted}
+use Rattle.std.specs.FinMap.{is_sorted}
 use Rattle.std.specs.FinMap.Entries.{by_order, below_all}
-use Rattle.std.specs.declared.cmp.Ordering.{Ordering}
 use Rattle.std.specs.declared.cmp.Ordering.TheVariants.{Less, Equal, Greater}
 use Rattle.op_ids.specs.declared.OpId.{OpId}
 use Rattle.op_ids.specs.declared.Side.TheVariants.{Left}
 use Rattle.op_ids.specs.Order.{id_cmp, id_lt, root_id}
-use Rattle.op_ids.proofs.OrderLaws.{id_cmp_total, id_eq-exact, eq_by_cmp-id, less_from_is_lt, lt_trans, lt_apart}
+use Rattle.op_ids.proofs.OrderLaws.{id_cmp_total, eq_by_cmp-id, less_from_is_lt, lt_trans, lt_apart}
 use Rattle.model.specs.Operation.{Anchor}
 use Rattle.model.specs.Walk.{Rows}
 use Rattle.walk_laws.specs.Insertion.{anchor_of, is_row, HangsWell, IsInsertionTree, with_row}
-use Rattle.walk_laws.proofs.Walks.{key_eq, key_itself, key_cases, lt_back, both}
+use Rattle.walk_laws.proofs.Walks.{key_eq, key_itself, lt_back, both}
 use Rattle.fugue_tree.specs.declared.tree.Anchor as code
 use Rattle.fugue_tree.specs.declared.tree.PlaceRow.{PlaceRow}
 use Rattle.fugue_tree.specs.Tree.{entry_of, row_of, kept_anchor, kept_entry, kept_rows}

@@ -158,7 +158,7 @@ below_keys : {K X : Type 0} (R : K → K → Ordering) (x : K) (es : List (K × 
 below_keys R x [] h = tt
 below_keys R x (e ∷ es) h = (less R x e.0 (told (is_lt (R x e.0)) (below_all R x es) h).0, below_keys R x es (told (is_lt (R x e.0)) (below_all R x es) h).1)
 
-strictly : {K X : Type 0} (R : K → K → Ordering) (es : List (K × X)) → T (is_sorted R es) → IsStrictlySortedBy R (keys_of es)
+pub strictly : {K X : Type 0} (R : K → K → Ordering) (es : List (K × X)) → T (is_sorted R es) → IsStrictlySortedBy R (keys_of es)
 unfolding IsStrictlySortedBy
 strictly R [] h = tt
 strictly R (e ∷ es) h = (below_keys R e.0 es (true_and (below_all R e.0 es) (is_sorted R es) h), strictly R es (told (below_all R e.0 es) (is_sorted R es) h).1)

@@ -2,10 +2,11 @@
 #![tactic(auto)]
 
 mod keys;
+pub mod laws;
 mod registers;
 
-pub use registers::{RegisterRow, Registers};
 pub use op_grammar::{OwnValue, Value};
+pub use registers::{RegisterRow, Registers};
 
 #[cfg(test)]
 mod tests;

@@ -1,6 +1,6 @@
 // What no clause says: that each call succeeds where memory is ample.
-use crate::{OwnValue, RegisterRow, Registers, Value};
-use op_ids::{OpId, ROOT};
+use crate::{RegisterRow, Registers, Value};
+use op_ids::OpId;
 use std::alloc::{AllocError, Global};
 use std::test::Fail;
 
@@ -24,11 +24,43 @@ const WRITES: [(u64, &str, u64, i64); 5] = [
 // What is kept of them, by node and key.
 const KEPT: [(u64, &str, u64, i64); 3] = [(0, "b", 5, 50), (1, "a", 2, 20), (1, "b", 4, 40)];
 
+fn is_row(row: &RegisterRow, kept: (u64, &str, u64, i64)) -> bool {
+    let (node, key, writer, number) = kept;
+    row.node == id(node)
+        && row.key.text() == key
+        && row.writer == id(writer)
+        && matches!(row.value.as_value(), Value::Int(n) if n == number)
+}
+
+fn copy_of(alloc: Global, registers: &Registers) -> Result<Registers, AllocError> {
+    let rows = registers.rows()?;
+    Registers::from_rows(alloc, rows.as_slice())
+}
+
 #[test]
 fn the_greatest_id_wins(rt: HostRuntime) -> Result<(), Fail> {
     let mut registers = Registers::new(rt.alloc());
     for (node, key, writer, number) in WRITES {
         registers.write(id(node), key, id(writer), Value::Int(number))?;
     }
+    for rows in [registers.rows()?, copy_of(rt.alloc(), &registers)?.rows()?] {
+        assert_eq!(rt; rows.len(), KEPT.len());
+        for (row, kept) in rows.iter().zip(KEPT) {
+            assert!(rt; is_row(row, kept), "row {kept:?}");
+        }
+    }
+    let of_node = registers.entries(id(1))?;
+    assert_eq!(rt; of_node.len(), 2);
+    for (row, kept) in of_node.iter().zip([KEPT[1], KEPT[2]]) {
+        assert!(rt; is_row(row, kept), "row {kept:?}");
+    }
+    for (node, key, writer, _) in KEPT {
+        let found = registers.get(id(node), key);
+        assert!(rt;
+            found.is_some_and(|(by, _)| by == id(writer)),
+            "{node} {key}"
+        );
+    }
+    assert!(rt; registers.get(id(0), "a").is_none());
     Ok(())
 }

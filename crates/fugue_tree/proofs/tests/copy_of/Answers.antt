@@ -1,4 +1,4 @@
-use Rattle.std.proofs.Common.{◌≡◌, ◌∙◌, ap, sym, subst, map}
+use Rattle.std.proofs.Common.{◌∙◌, ap, sym, subst, map}
 use Rattle.walk_laws.specs.Insertion.{IsInsertionTree}
 use Rattle.fugue_tree.specs.Tree.{entry_of}
 use Rattle.fugue_tree.proofs.RowLaws.{entries_rows}

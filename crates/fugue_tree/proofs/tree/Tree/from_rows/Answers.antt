@@ -1,4 +1,4 @@
-use Rattle.std.proofs.Common.{◌≡◌, ◌∙◌, ap, sym, subst, get_or, take, map}
+use Rattle.std.proofs.Common.{◌∙◌, ap, sym, subst, get_or}
 use Rattle.walk_laws.specs.Insertion.{is_row, HangsWell, with_row}
 use Rattle.fugue_tree.specs.Tree.{entry_of}
 use Rattle.fugue_tree.proofs.RowLaws.{next_at, rows_more, no_row}

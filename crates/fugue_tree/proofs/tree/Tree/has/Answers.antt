@@ -1,4 +1,4 @@
-use Rattle.std.proofs.Common.{◌≡◌, ◌∙◌, ap, sym, is_some}
+use Rattle.std.proofs.Common.{◌∙◌, ap, sym, is_some}
 use Rattle.walk_laws.specs.Insertion.{is_row}
 use Rattle.fugue_tree.specs.Tree.{OwnedRows}
 use Rattle.fugue_tree.proofs.RowLaws.{anchor_of-kept, is_some-kept}

@@ -1,4 +1,4 @@
-use Rattle.walk_laws.specs.Insertion.{Leftmost, stop, down}
+use Rattle.walk_laws.specs.Insertion.{stop, down}
 use Rattle.op_ids.specs.declared.Side.TheVariants.{Left}
 use Rattle.fugue_tree.proofs.PlaceLaws.{falls, left_below}
 use Rattle.fugue_tree.proofs.tree.Tree.leftmost.Goals as goal

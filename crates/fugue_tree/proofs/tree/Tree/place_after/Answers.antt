@@ -1,7 +1,6 @@
-use Rattle.std.proofs.Common.{◌≡◌, ◌∙◌, ap, sym}
+use Rattle.std.proofs.Common.{◌∙◌, ap, sym}
 use Rattle.op_ids.specs.Order.{id_lt}
 use Rattle.model.specs.Operation.{Anchor}
-use Rattle.model.specs.Walk.{place_after}
 use Rattle.walk_laws.proofs.InsertionLaws.{place_after_is_after}
 use Rattle.fugue_tree.proofs.PlaceLaws.{place_at_end, place_before}
 use Rattle.fugue_tree.proofs.tree.Tree.place_after.Goals as goal
