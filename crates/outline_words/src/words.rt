@@ -1,6 +1,6 @@
 //! The words of a command line, read from left to right.
 
-ghost use Rattle.std.specs.Prelude.{◌≡◌, ◌++◌, ◌∷◌, [], OnOk, OnErr, IfOk, IfErr, map, string_bytes};
+ghost use Rattle.std.specs.Prelude.{◌≡◌, ◌++◌, ◌∷◌, [], OnOk, OnErr, IfOk, IfErr};
 ghost use Rattle.outline_words.specs.Table.{FirstWrong};
 ghost use Rattle.outline_words.specs.Commands.{IsGiven, AreTexts};
 
