@@ -20,8 +20,9 @@ pub mod RisingLoop
 pub mod KeptLoop
 pub mod ReadLaws
 pub mod MeaningLaws
-pub mod EditMeaning
-pub mod LedgerMeaning
-pub mod OrderLaws
 pub mod FoundLaws
 pub mod HexLaws
+pub mod EmptyLaws
+pub mod SizeLaws
+pub mod SmallLaws
+pub mod MadeLaws

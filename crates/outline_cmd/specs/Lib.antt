@@ -1,8 +1,8 @@
 pub mod Status
+pub mod Scope
 pub mod Meaning
 pub mod Ending
 pub mod Run
-pub mod Ledgers
 pub mod Stages
 pub mod Input
 pub mod Front

@@ -1,28 +1,28 @@
--- What a command means, over files: its answer, or its refusal. Steps are read in their order, and the first that refuses ends them.
-use Rattle.std.specs.Prelude.{◌≡◌, ◌⊎◌, ℕ, ◌+◌, ◌^◌, ◌==◌, ◌&&◌, nat_lt, nat_le, if◌then◌else◌, List, [], ◌∷◌, length, Option, Some, None, IsSome, Result, Ok, Err, MatchBool}
+-- What a command means, over what loading its files brings: its answer, or its refusal. Steps are read in their order, and the first that refuses ends them.
+use Rattle.std.specs.Prelude.{◌≡◌, ℕ, ◌+◌, ◌==◌, ◌++◌, nat_le, if◌then◌else◌, List, [], ◌∷◌, length, slice_get, Option, Some, None, Result, Ok, Err}
 use Rattle.std.specs.List.{list_all}
-use Rattle.outside.specs.Files.{Files, file_at}
-use Rattle.cbor_det.specs.Head.{IsBytes}
-use Rattle.op_ids.specs.Order.{root_id, id_eq}
-use Rattle.op_ids.specs.declared.OpId.{OpId}
-use Rattle.model.specs.Value as model
-use Rattle.model.specs.Value.{Value, Operation, put_key}
-use Rattle.model.specs.Change.{Change, count_of}
-use Rattle.model.specs.Ledger.{members, greatest_time, made}
-use Rattle.model.specs.File.{File, SpellsSmall, spell_file, file_limit, new_file, with_change}
+use Rattle.op_ids.specs.Order.{root_id}
+use Rattle.model.specs.Value.{Value}
+use Rattle.model.specs.Operation.{Operation, put_key}
+use Rattle.model.specs.Change.{Change}
+use Rattle.model.specs.Command.{Unmade, nobody, wrong, clock_full, clocked}
+use Rattle.model.specs.Edit as edits
+use Rattle.model.specs.Edit.{WrongEdit, wrong_key, wrong_value}
+use Rattle.model.specs.File.{File, spell_file, file_limit}
+use Rattle.model.specs.Held.{held}
 use Rattle.model.specs.State.{replay}
 use Rattle.model.specs.View.{view}
-use Rattle.model.specs.Text.{show_text, holds_line, made_line}
-use Rattle.outline_words.specs.Orders.{Order, found, put, unset, show, Spell}
-use Rattle.outline_words.specs.Forms.{FirstWrong, names_unbuilt}
-use Rattle.outline_cmd.specs.declared.status.EditFault.TheVariants.{Empty, TooLong}
+use Rattle.model.specs.Text.{show_text, made_line}
+use Rattle.outline_cmd.specs.Scope.{SpellsSmall, with_change}
+use Rattle.outline_cmd.specs.declared.status.EditFault.{EditFault}
+use Rattle.outline_cmd.specs.declared.status.EditFault.TheVariants as e
 use Rattle.outline_cmd.specs.declared.status.MemberFault.TheVariants.{Nobody}
 use Rattle.outline_cmd.specs.declared.status.Status.{Status}
 use Rattle.outline_cmd.specs.declared.status.Status.TheVariants as s
 
 -- ---- meanings
 
--- Which outcomes are meant: a value, or a refusal. There is one, but that a load may also fail.
+-- Which outcomes are meant: a value, or a refusal. There is one.
 abbrev pub Meaning : Type 0 → Type 1
 Meaning A = Result A Status → Type 0
 
@@ -37,8 +37,9 @@ infixl 10 ◌>>=◌
 abbrev pub ◌>>=◌ : {A B : Type 0} → Meaning A → (A → Meaning B) → Meaning B
 (◌>>=◌) {A} {B} first next = λ outcome. (step : Result A Status) × first step × Continues next step outcome
 
--- A file to be stored, under the name that is given.
+-- A file to be stored: the word that names it, its name, and its bytes.
 pub record Store : Type 0 where
+  pub word : ℕ
   pub name : List ℕ
   pub bytes : List ℕ
 
@@ -49,19 +50,31 @@ pub record Answer : Type 0 where
 
 -- ---- files
 
--- each file is of bytes
-abbrev pub HoldBytes : Files → Type 0
-HoldBytes files = (name bytes : List ℕ) → file_at files name ≡ Some bytes → IsBytes bytes
+-- What loading a file brings.
+pub data Loaded : Type 0 where
+  -- no file has the name
+  missing : Loaded
+  -- the load failed
+  failed : Loaded
+  -- all of its bytes
+  whole : List ℕ → Loaded
 
--- The bytes of the file that a word names. Each load may fail.
-abbrev pub loaded : Files → ℕ → List ℕ → Meaning (List ℕ)
-loaded files word name (Ok bytes) = file_at files name ≡ Some bytes
-loaded files word name (Err refusal) = (refusal ≡ s.ReadFault word) ⊎ ((refusal ≡ s.Missing word) × (file_at files name ≡ None))
+-- The bytes of the file that a word names. Where they are too many the status tells one more than the limit.
+abbrev pub read : ℕ → Loaded → Result (List ℕ) Status
+read word missing = Err (s.Missing word)
+read word failed = Err (s.ReadFault word)
+read word (whole bytes) = if nat_le (length bytes) file_limit then Ok bytes else Err (s.TooLarge word (file_limit + 1))
 
--- The name of a new file, which no file has yet. It is loaded too.
-abbrev pub unused : Files → ℕ → List ℕ → Meaning Unit
-unused files word name (Ok x) = file_at files name ≡ None
-unused files word name (Err refusal) = (refusal ≡ s.ReadFault word) ⊎ ((refusal ≡ s.Exists word) × IsSome (file_at files name))
+abbrev pub input_bytes : Option (ℕ × List ℕ) → Loaded → Result (List ℕ) Status
+input_bytes None load = Ok []
+input_bytes (Some at) load = read at.0 load
+
+-- The name of a new file, which no file has yet.
+abbrev pub unused : Option (ℕ × List ℕ) → Loaded → Result Unit Status
+unused None load = Ok tt
+unused (Some at) missing = Ok tt
+unused (Some at) failed = Err (s.ReadFault at.0)
+unused (Some at) (whole bytes) = Err (s.Exists at.0)
 
 -- no small file has this spelling
 abbrev pub SpellsNone : List ℕ → Type 0
@@ -72,55 +85,56 @@ abbrev pub spelled : ℕ → List ℕ → Meaning File
 spelled word bytes (Ok f) = SpellsSmall bytes f
 spelled word bytes (Err refusal) = (refusal ≡ s.NotBuilt word) × SpellsNone bytes
 
--- Bytes that aren't too many for a file. Of others the status tells one more than the limit.
-abbrev pub within_limit : ℕ → List ℕ → Result (List ℕ) Status
-within_limit word bytes = if nat_le (length bytes) file_limit then Ok bytes else Err (s.TooLarge word (file_limit + 1))
-
-abbrev pub input_bytes : Files → ℕ → List ℕ → Meaning (List ℕ)
-input_bytes files word name = do
-  bytes ← loaded files word name
-  known (within_limit word bytes)
-
--- The file that a word names.
-abbrev pub input : Files → ℕ → List ℕ → Meaning File
-input files word name = do
-  bytes ← input_bytes files word name
-  spelled word bytes
-
 -- The answer with this text that stores a file under the name that a word gives.
-abbrev pub storing : ℕ → List ℕ → File → List ℕ → Result Answer Status
-storing word name f text =
-    let bytes = spell_file f in
-    if nat_le (length bytes) file_limit then Ok (record { text = text; store = Some (record { name = name; bytes = bytes }) }) else Err (s.TooLarge word (length bytes))
+abbrev pub storing : ℕ → List ℕ → File → List ℕ → Answer
+storing word name f text = record { text = text; store = Some (record { word = word; name = name; bytes = spell_file f }) }
+
+-- an answer whose file isn't too large
+abbrev pub sized_store : Answer → Option Store → Result Answer Status
+sized_store a None = Ok a
+sized_store a (Some store) = if nat_le (length store.bytes) file_limit then Ok a else Err (s.TooLarge store.word (length store.bytes))
+
+abbrev pub sized : Answer → Result Answer Status
+sized a = sized_store a a.store
 
 -- ---- edits
 
--- The member who edits: the least that the file holds. So far it has to be the one who made the changes.
+-- how a fault of an edit is told
+abbrev pub fault_told : edits.EditFault → EditFault
+fault_told edits.no_node = e.NoNode
+fault_told edits.no_index = e.NoIndex
+fault_told edits.cycle = e.Cycle
+fault_told edits.fixed = e.Fixed
+fault_told edits.no_characters = e.NoChars
+fault_told edits.is_empty = e.Empty
+fault_told edits.too_long = e.TooLong
+
+-- the refusal of one who makes nothing
+abbrev pub unmade : Unmade → Status
+unmade nobody = s.Member Nobody
+unmade (wrong w) = s.Edit (fault_told w.fault) w.word
+unmade (clock_full time m count) = s.ClockFull time m count
+
+abbrev pub made_or_refused : {A : Type 0} → Result A Unmade → Result A Status
+made_or_refused (Ok x) = Ok x
+made_or_refused (Err u) = Err (unmade u)
+
+-- The member who edits: the least that the file holds. It has to be the one who made the changes.
 abbrev pub editor_among : List ℕ → List Change → Result ℕ Status
-editor_among [] kept = Err (s.Member Nobody)
+editor_among [] kept = Err (unmade nobody)
 editor_among (m ∷ ms) kept = if list_all (λ c. c.member == m) kept then Ok m else Err (s.NotBuilt 1)
 
--- how many bytes the text or the bytes have
-abbrev pub value_len : Value → ℕ
-value_len model.null = 0
-value_len (model.truth b) = 0
-value_len (model.integer n) = 0
-value_len (model.text t) = length t
-value_len (model.bytes b) = length b
+abbrev pub faultless : Option WrongEdit → Result Unit Status
+faultless None = Ok tt
+faultless (Some w) = Err (unmade (wrong w))
 
--- The first fault of a put: its key has 1 to 256 bytes, and its text or bytes at most 65,536.
+-- the first fault of a put on the root, which is in view
 abbrev pub checked_put : List ℕ → Value → Result Unit Status
-checked_put key value =
-    if length key == 0 then Err (s.Edit Empty 3) else
-    if nat_lt 256 (length key) then Err (s.Edit TooLong 3) else
-    if nat_lt 65536 (value_len value) then Err (s.Edit TooLong 4) else
-    Ok tt
+checked_put key value = faultless (slice_get (wrong_key key ++ wrong_value value) 0)
 
--- The change that a member makes, unless its time or its number would pass their ends.
-abbrev pub clocked : File → ℕ → List Operation → Result Change Status
-clocked f m operations =
-    let c = made f.members f.kept m operations in
-    if nat_lt c.time (2 ^ 48) && nat_lt c.number (2 ^ 32) then Ok c else Err (s.ClockFull (greatest_time f.kept) m (count_of f.kept m))
+-- the change that a member makes who holds the changes of the file
+abbrev pub clocked_in : File → ℕ → List Operation → Result Change Status
+clocked_in f m operations = made_or_refused (clocked f.members (held f.members f.kept) m operations)
 
 -- The text of a file: the view of replaying its changes.
 unfoldable pub shown_text : File → List ℕ
@@ -129,61 +143,22 @@ shown_text f = show_text (view (replay f.kept))
 abbrev pub shown_answer : File → Answer
 shown_answer f = record { text = shown_text f; store = None }
 
--- ---- commands
+-- ---- commands over the bytes of a file
 
-abbrev pub found_meaning : Files → List ℕ → ℕ → List ℕ → Meaning Answer
-found_meaning files document n name = do
-  u ← unused files 3 name
-  known (storing 3 name (new_file document n) (holds_line (members n)))
-
-abbrev pub put_in_meaning : List ℕ → File → OpId → List ℕ → Value → Meaning Answer
-put_in_meaning name f node key value = do
+-- a put on the root
+abbrev pub put_in : List ℕ → File → List ℕ → Value → Meaning Answer
+put_in name f key value = do
   m ← known (editor_among f.mine f.kept)
   u ← known (checked_put key value)
-  c ← known (clocked f m (put_key node key value ∷ []))
-  known (storing 1 name (with_change f c) (made_line c))
+  c ← known (clocked_in f m (put_key root_id key value ∷ []))
+  known (Ok (storing 1 name (with_change f c) (made_line c)))
 
-abbrev pub put_meaning : Files → List ℕ → OpId → List ℕ → Value → Meaning Answer
-put_meaning files name node key value = do
-  f ← input files 1 name
-  put_in_meaning name f node key value
+abbrev pub put_from : List ℕ → List ℕ → List ℕ → Value → Meaning Answer
+put_from name bytes key value = do
+  f ← spelled 1 bytes
+  put_in name f key value
 
-abbrev pub show_meaning : Files → List ℕ → Meaning Answer
-show_meaning files name = do
-  f ← input files 1 name
+abbrev pub shown_from : List ℕ → Meaning Answer
+shown_from bytes = do
+  f ← spelled 1 bytes
   known (Ok (shown_answer f))
-
-abbrev pub order_meaning : Files → Order → Meaning Answer
-order_meaning files (found document n name) = found_meaning files document n name
-order_meaning files (put name node key value) = put_meaning files name node key value
-order_meaning files (unset name node key) = put_meaning files name node key model.null
-order_meaning files (show name) = show_meaning files name
-
--- ---- words
-
--- The command that words say.
-abbrev pub said : List (List ℕ) → Meaning Order
-said words (Ok order) = Spell words order
-said words (Err refusal) = MatchBool (names_unbuilt words) (refusal ≡ s.NotBuilt 0) ((word : ℕ) × (refusal ≡ s.Words 0 word) × FirstWrong words word)
-
--- So far the root alone is edited.
-abbrev pub built_at : OpId → Order → Result Order Status
-built_at node order = if id_eq node root_id then Ok order else Err (s.NotBuilt 2)
-
-abbrev pub built : Order → Result Order Status
-built (found document n name) = Ok (found document n name)
-built (put name node key value) = built_at node (put name node key value)
-built (unset name node key) = built_at node (unset name node key)
-built (show name) = Ok (show name)
-
--- The command that words give. What is refused here is refused before anything is loaded.
-abbrev pub ordered : List (List ℕ) → Meaning Order
-ordered words = do
-  order ← said words
-  known (built order)
-
--- What a command line means.
-abbrev pub meaning : Files → List (List ℕ) → Meaning Answer
-meaning files words = do
-  order ← ordered words
-  order_meaning files order

@@ -1,30 +1,32 @@
 //! Edits: the change that a member makes, and the file with it.
 
-ghost use Rattle.std.specs.Prelude.{◌≡◌, ℕ, ◌≤◌, ◌<◌, List, length, Ok, IfOk, IfErr, OnOk};
+ghost use Rattle.std.specs.Prelude.{◌≡◌, ℕ, ◌≤◌, ◌<◌, List, [], ◌∷◌, length, Ok, IfOk, IfErr};
 ghost use Rattle.cbor_det.specs.Head.{IsBytes};
 ghost use Rattle.op_ids.specs.Order.{root_id};
-ghost use Rattle.model.specs.Value.{Operation, IsOperation, IsValue, put_key};
-ghost use Rattle.model.specs.File.{File, IsSmall, file_limit, spell_file, with_change};
-ghost use Rattle.op_grammar.specs.Changes.{change_of, KeepsAll};
-ghost use Rattle.op_grammar.specs.Operations.{operations_of, ArePuts};
+ghost use Rattle.model.specs.Operation.{Operation, put_key};
+ghost use Rattle.model.specs.Edit.{value_len};
+ghost use Rattle.model.specs.File.{File, file_limit, spell_file};
+ghost use Rattle.outline_cmd.specs.Scope.{IsSmall, with_change};
 ghost use Rattle.op_grammar.specs.Values.{value_of};
-ghost use Rattle.outline_cmd.specs.Edits.{HeadsOne};
-ghost use Rattle.outline_cmd.specs.Meaning.{known, editor_among, value_len, checked_put, clocked, put_in_meaning};
+ghost use Rattle.model.specs.Text.{hex};
+ghost use Rattle.outline_cmd.specs.Edits.{HeadsOne, change_of};
+ghost use Rattle.outline_cmd.specs.Meaning.{known, editor_among, checked_put, clocked_in, put_in, put_from};
 ghost use Rattle.outline_cmd.specs.Represents.{Represents};
-ghost use Rattle.outline_cmd.specs.Stages.{answer_of, put_from, Follows};
+ghost use Rattle.outline_cmd.specs.Stages.{answer_of, Follows};
 ghost use Rattle.outline_cmd.specs.declared.status.Status.TheVariants.{NoMemory};
 
-use crate::answer::{Answer, storing};
+use crate::answer::{Answer, Store};
 use crate::input::small_file;
 use crate::operations::{MAX_KEY_LEN, MAX_VALUE_LEN};
 use crate::outline_show::made_text;
+use crate::put_change::append_put;
 use crate::replica::MAX_KEPT;
 use crate::small_file::SmallFile;
 use crate::status::{EditFault, MemberFault, Status};
 use cbor_det::put_uint;
-use op_grammar::{Head, OpPlan, OpRef, Value, WriteFault, write_change};
-use op_ids::{MAX_TIME, ROOT};
-use std::alloc::Global;
+use op_grammar::{Head, Value};
+use op_ids::MAX_TIME;
+use std::alloc::{AllocError, Global};
 use version_vector::Vector;
 
 /// The member who edits a file: the least that it holds, if the changes that it keeps are of this member.
@@ -42,30 +44,20 @@ fn editor(file: &SmallFile<'_>) -> Result<u8, Status>
     }
 }
 
-// That a slice of bytes has bytes (`fits`) is said for the caller, who has it from a value.
-fn bytes_len(bytes: &[u8]) -> usize
-    ensures len { result ≡ length bytes.now }
-    ensures fits { IsBytes bytes.now }
-{
-    bytes.len()
-}
-
 /// How many bytes a text or bytes have.
 fn value_len(value: Value<'_>) -> usize
-    ensures len { result ≡ value_len (value_of value.entry) }
-    ensures is_value { result ≤ 65536 → IsValue (value_of value.entry) }
+    ensures { result ≡ value_len (value_of value.entry) }
 {
     match value {
         Value::Null | Value::Bool(_) | Value::Int(_) => 0,
         Value::Text(text) => text.len(),
-        Value::Bytes(bytes) => bytes_len(bytes),
+        Value::Bytes(bytes) => bytes.len(),
     }
 }
 
 /// The first fault of a put: its key has 1 to 256 bytes, and its text or bytes at most 65,536.
 fn check_put(key: &str, value: Value<'_>) -> Result<(), Status>
-    ensures told { Follows (λ u. u) result (known (checked_put key.now (value_of value.entry))) }
-    ensures is_put { (n : ℕ) → 0 < n → OnOk result (IsOperation n (put_key root_id key.now (value_of value.entry))) }
+    ensures { Follows (λ u. u) result (known (checked_put key.now (value_of value.entry))) }
 {
     if key.is_empty() {
         return Err(Status::Edit {
@@ -93,7 +85,7 @@ fn next_head(alloc: Global, file: &SmallFile<'_>, member: u8) -> Result<Head, St
     requires { member < file.now.members }
     ensures told { (f : File) (os : List Operation) → IsSmall f → Represents file.now f
         → editor_among f.mine f.kept ≡ Ok member
-        → Follows (λ head. change_of head os) result (known (clocked f member os)) }
+        → Follows (λ head. change_of head os) result (known (clocked_in f member os)) }
     ensures keeps { IfOk result (λ head. HeadsOne head file.now.members member) }
 {
     let last = file.last;
@@ -116,18 +108,18 @@ fn next_head(alloc: Global, file: &SmallFile<'_>, member: u8) -> Result<Head, St
     })
 }
 
-/// The bytes of a file with one more change.
-fn with_change(
+/// The bytes of a file with one more change, which puts a value on the root.
+fn with_put(
     alloc: Global,
     file: &SmallFile<'_>,
     head: &Head,
-    plan: &OpPlan<'_>,
-) -> Result<Vec<u8>, Status>
-    requires puts { ArePuts plan.now }
-    requires keeps { KeepsAll head.now (operations_of plan.now) }
-    ensures ok { (f : File) → IsSmall f → Represents file.now f → IfOk result (λ bytes. bytes.items
-        ≡ spell_file (with_change f (change_of head.now (operations_of plan.now)))) }
-    ensures err { IfErr result (λ status. status ≡ NoMemory) }
+    key: &str,
+    value: Value<'_>,
+) -> Result<Vec<u8>, AllocError>
+    requires one { head.now.count ≡ 1 }
+    requires narrow { head.now.width ≡ 1 }
+    ensures { (f : File) → IsSmall f → Represents file.now f → IfOk result (λ bytes. bytes.items
+        ≡ spell_file (with_change f (change_of head.now (put_key root_id key.now (value_of value.entry) ∷ [])))) }
 {
     let mut bytes = Vec::new(alloc);
     bytes.reserve(file.front.len() + file.rest.len())?;
@@ -135,11 +127,8 @@ fn with_change(
     put_uint(&mut bytes, file.last.number + 1)?;
     put_uint(&mut bytes, 0)?;
     bytes.extend_from_slice(file.rest)?;
-    match write_change(&mut bytes, head, plan) {
-        Ok(()) => Ok(bytes),
-        Err(WriteFault::NoMemory) => Err(Status::NoMemory),
-        Err(WriteFault::Rule(_)) => unreachable!(),
-    }
+    append_put(alloc, &mut bytes, head, key, value)?;
+    Ok(bytes)
 }
 
 /// The answer of a put on the root of a file.
@@ -151,24 +140,25 @@ fn add_put<'w>(
     value: Value<'_>,
 ) -> Result<Answer<'w>, Status>
     ensures { (f : File) → IsSmall f → Represents file.now f → Follows answer_of result
-        (put_in_meaning name.now f root_id key.now (value_of value.entry)) }
+        (put_in name.now f key.now (value_of value.entry)) }
 {
     let member = editor(file)?;
     check_put(key, value)?;
     let head = next_head(alloc, file, member)?;
-    let mut plan = OpPlan::new(alloc);
-    plan.push(OpRef::PutKey {
-        node: ROOT,
-        key,
-        value,
-    })?;
-    let bytes = with_change(alloc, file, &head, &plan)?;
+    let bytes = with_put(alloc, file, &head, key, value)?;
     let text = made_text(alloc, &head)?;
-    storing(1, name, bytes, text)
+    Ok(Answer {
+        text,
+        store: Some(Store {
+            word: 1,
+            name,
+            bytes,
+        }),
+    })
 }
 
 /// The answer of a put on the root of the file that the bytes spell.
-pub(crate) fn put_on_root<'w>(
+fn put_on_root<'w>(
     alloc: Global,
     bytes: &[u8],
     name: &'w str,
@@ -176,8 +166,19 @@ pub(crate) fn put_on_root<'w>(
     value: Value<'_>,
 ) -> Result<Answer<'w>, Status>
     requires { length bytes.now ≤ file_limit }
-    ensures { Follows answer_of result (put_from name.now bytes.now root_id key.now (value_of value.entry)) }
+    ensures { Follows answer_of result (put_from name.now bytes.now key.now (value_of value.entry)) }
 {
     let file = small_file(alloc, 1, bytes)?;
     add_put(alloc, &file, name, key, value)
+}
+
+/// The bytes that lower-case hexadecimal digits say.
+#[tactic(auto, using(crate::proofs::HexLaws::hex_decodes))]
+pub(crate) fn decoded(alloc: Global, digits: &str) -> Result<Vec<u8>, Status>
+    ensures ok { (bytes : List ℕ) → IsBytes bytes → digits.now ≡ hex bytes
+        → IfOk result (λ decoded. decoded.items ≡ bytes) }
+    ensures err { IfErr result (λ status. status ≡ NoMemory) }
+{
+    // What a word says are digits, so that memory alone can be wanting.
+    hex::decode(alloc, digits).map_err(|_| Status::NoMemory)
 }
