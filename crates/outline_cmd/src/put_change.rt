@@ -7,7 +7,8 @@ ghost use Rattle.model.specs.Value.{id_item, value_item, numbers_item};
 ghost use Rattle.model.specs.Operation.{operation_item, put_key};
 ghost use Rattle.model.specs.Change.{change_item};
 ghost use Rattle.op_grammar.specs.Values.{value_of};
-ghost use Rattle.outline_cmd.specs.Edits.{change_of, spell_with_body};
+ghost use Rattle.op_grammar.specs.Changes.{change_of};
+ghost use Rattle.outline_cmd.specs.Edits.{spell_with_body};
 
 use crate::operations::PUT_KEY;
 use cbor_det::{Simple, put_array, put_bytes, put_int, put_simple, put_text, put_uint};

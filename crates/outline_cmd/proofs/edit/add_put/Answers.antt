@@ -6,7 +6,7 @@ use Rattle.model.specs.Change.{Change}
 use Rattle.model.specs.Text.{made_line}
 use Rattle.model.specs.File.{spell_file}
 use Rattle.outline_cmd.specs.Scope.{with_change}
-use Rattle.outline_cmd.specs.Edits.{change_of}
+use Rattle.op_grammar.specs.Changes.{change_of}
 use Rattle.op_grammar.specs.Values.{value_of}
 use Rattle.outline_cmd.specs.Meaning.{put_in, known, editor_among, checked_put, clocked_in}
 use Rattle.outline_cmd.specs.Stages.{answer_of, Follows, Refuses}

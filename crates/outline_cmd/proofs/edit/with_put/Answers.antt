@@ -2,7 +2,7 @@ use Rattle.std.proofs.Common.{[], ◌∷◌}
 use Rattle.op_ids.specs.Order.{root_id}
 use Rattle.model.specs.Operation.{put_key}
 use Rattle.op_grammar.specs.Values.{value_of}
-use Rattle.outline_cmd.specs.Edits.{change_of}
+use Rattle.op_grammar.specs.Changes.{change_of}
 use Rattle.outline_cmd.proofs.EditLaws.{with_change_spelled}
 use Rattle.outline_cmd.proofs.edit.with_put.Goals as goal
 
