@@ -23,7 +23,7 @@ use Rattle.ledger_laws.proofs.FileLaws.{files_read_whole}
 use Rattle.ledger_laws.proofs.MadeLaws as made
 use Rattle.outline_cmd.specs.Scope.{IsSmall, with_change}
 use Rattle.outline_cmd.specs.declared.small_file.Last.{Last}
-use Rattle.outline_cmd.specs.SmallFile.{may_follow, after_change, no_change, last_in}
+use Rattle.outline_cmd.specs.SmallFile.{may_follow, after_change, no_change, last_in, file_of}
 use Rattle.outline_cmd.proofs.PartLaws.{IsWithin}
 use Rattle.outline_cmd.proofs.ChangeLaws.{IsMaker, IsNext}
 use Rattle.outline_cmd.proofs.ChainLaws.{GoOn}
@@ -91,8 +91,9 @@ edited_is_small f m key value small lt all is early next =
     let few : length (f.kept ++ c ∷ []) < 2 ^ 32 = omega (arith, count_of_all f.kept m all) in
     let kept : IsWithin 0 (2 ^ 32) (length (f.kept ++ c ∷ [])) = record { least = omega arith; most = few } in
     let go_on = GoOn-push f.members no_change f.kept c (small_goes_on f small) (made_next f m key value small lt all is early) in
-    subst IsSmall
-    (sym (λ i. record { version = small.is_file.header.version i; kind = small.kind i; document = f.document; members = f.members; mine = f.mine; base = small.untrimmed i; kept = f.kept ++ c ∷ []; waiting = small.none_waits i }))
+    let same : with_change f c ≡ file_of (header_in (with_change f c)) (f.kept ++ c ∷ []) =
+    λ i. record { version = small.is_file.header.version i; kind = small.kind i; document = f.document; members = f.members; mine = f.mine; base = small.untrimmed i; kept = f.kept ++ c ∷ []; waiting = small.none_waits i } in
+    subst IsSmall (sym same)
     (small_from_chain (header_in (with_change f c)) (f.kept ++ c ∷ []) (record { front = header.front; kept = kept }) refl go_on)
 
 -- ---- what a small file tells by itself
