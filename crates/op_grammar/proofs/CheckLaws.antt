@@ -45,10 +45,28 @@ module _ (n : ℕ) (x : Item) (s : Said) (said : SaidAnswer n x (Ok s)) where
     pub operations_break : (Are → ⊥) → CheckAnswer n x (Err r.G7)
     operations_break out =
         let h = said.1 in
-        inr (h.0, inr (h.1.0, inr (h.1.1.0, inr (h.1.1.1.0, inr (h.1.1.1.1.0, inr ((said_parts s, said.0, is_body), inl (
-          refl,
-          λ k. denies (HasOperations n) (said_parts s) (λ o. out (exactly.1 o)) (subst (SaysChange (HasOperations n)) said.0 k),
-        )))))))
+        inr (
+          h.0,
+          inr (
+            h.1.0,
+            inr (
+              h.1.1.0,
+              inr (
+                h.1.1.1.0,
+                inr (
+                  h.1.1.1.1.0,
+                  inr (
+                    (said_parts s, said.0, is_body),
+                    inl (
+                      refl,
+                      λ k. denies (HasOperations n) (said_parts s) (λ o. out (exactly.1 o)) (subst (SaysChange (HasOperations n)) said.0 k),
+                    ),
+                  ),
+                ),
+              ),
+            ),
+          ),
+        )
 
     pub is_change : (h : Head) → Are → h ≡ record { member = s.member; number = s.number; time = s.time; causes = s.causes; count = s.count; width = s.width } → CheckAnswer n x (Ok h)
     is_change h are e =

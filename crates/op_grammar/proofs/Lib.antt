@@ -5,3 +5,4 @@ pub mod HeadLaws
 pub mod PartsLaws
 pub mod BodyLaws
 pub mod CheckLaws
+pub mod SpellingLaws

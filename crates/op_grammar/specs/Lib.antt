@@ -3,3 +3,4 @@ pub mod Operations
 pub mod Rules
 pub mod Changes
 pub mod Parts
+pub mod Sources

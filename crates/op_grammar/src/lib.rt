@@ -12,9 +12,12 @@ mod operation;
 mod parts;
 mod reading;
 mod rule;
+mod source;
+mod spelling;
 mod value;
+mod writing;
 
-pub use change::WriteFault;
+pub use change::{WriteFault, write_change};
 pub use check::check_change;
 pub use fields::{read_id, read_side, read_value};
 pub use head::{Head, read_head};
@@ -22,7 +25,9 @@ pub use op_ids::Side;
 pub use operation::{OpPlan, OpRef, width_of};
 pub use reading::{OpFault, read_op};
 pub use rule::Rule;
+pub use source::OpSource;
 pub use value::{OwnValue, Value};
+pub use writing::{put_id, put_side, put_value};
 
 #[cfg(test)]
 mod tests;

@@ -17,7 +17,7 @@ returns-then-ids-left c = λ xs spells l. (
 pub loop-read-preserved : goal.loop-read-preserved
 loop-read-preserved c =
     rw (c.from-ids.ensures, c.width_of.ensures) (op_read c.args.n c.args.body.now c.args.count c.args.width c.loop-read.read (unread c.loop-read.cursor) (unread c.read_operation.new.cursor) c.loop-read.left c.loop-read.invariant c.in-Some.op c.in-Some.ensures c.loop-read-test.true
-      (omega (arith, c.if-ids-left.false, c.from-ids.ensures, c.width_of.ensures)))
+    (omega (arith, c.if-ids-left.false, c.from-ids.ensures, c.width_of.ensures)))
 
 pub returns : goal.returns
 returns c = λ xs spells l.
