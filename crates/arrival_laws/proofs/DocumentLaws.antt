@@ -63,7 +63,7 @@ pub each_below : (front back : List Atom) → AllSingle front → RightAlong emp
 each_below front [] s g r = tt
 each_below front (x ∷ back) s g r = (below_right empty_state x.id front s (front_before front x back r) g (empty_below x.id), each_below front back s g (rises_one front x back r))
 
-made_of : (n : ℕ) (early kept : List Change) → Sound n (early ++ kept) → IsMadeOf (replay early) (atoms kept)
+pub made_of : (n : ℕ) (early kept : List Change) → Sound n (early ++ kept) → IsMadeOf (replay early) (atoms kept)
 made_of n early kept sound =
     let refers = each_more (Joins n) Refers (joins_refers n) [] (early ++ kept) sound.each in
     let whole = right_along [] (early ++ kept) refers in

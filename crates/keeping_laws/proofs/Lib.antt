@@ -1,0 +1,4 @@
+pub mod FormLaws
+pub mod PlaceLaws
+pub mod MemberRows
+pub mod BaseLaws
