@@ -2,3 +2,5 @@ pub mod FormLaws
 pub mod PlaceLaws
 pub mod MemberRows
 pub mod BaseLaws
+pub mod SizeLaws
+pub mod EditForms
