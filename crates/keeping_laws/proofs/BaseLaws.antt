@@ -224,7 +224,7 @@ front_sound n L h sound = record {
   each = EachAfter-front (Joins n) [] (up_to L h) (past L h) (subst (λ l. EachAfter (Joins n) [] l) (sym (up_to-append-past L h sound.in_order)) sound.each);
 }
 
-times_by : (L : ℕ) (h : List Change) → AllByRecursion (λ c. c.time ≤ L) (up_to L h)
+pub times_by : (L : ℕ) (h : List Change) → AllByRecursion (λ c. c.time ≤ L) (up_to L h)
 times_by L h = all_more (λ c. leb c.time L ≡ true) (λ c. c.time ≤ L) (λ c e. leb-true c.time L e) (up_to L h) (all_pass (λ c. leb c.time L) h)
 
 -- the changes up to a time are those up to an earlier one, and those between
@@ -233,18 +233,9 @@ up_to_later H L h order l =
     ap (up_to L) (sym (up_to-append-past H h order)) ∙ filter-append (λ c. leb c.time L) (up_to H h) (past H h)
     ∙ ap (λ front. front ++ up_to L (past H h)) (filter_all (λ c. leb c.time L) (up_to H h) (all_more (λ c. c.time ≤ H) (λ c. leb c.time L ≡ true) (λ c k. le-leb c.time L (omega arith)) (up_to H h) (times_by H h)))
 
-pub base_moved_on : (n H L : ℕ) (h : List Change) → Sound n h → H ≤ L → L < 2 ^ 48 → IsBase n (base_of n h H) → AllByRecursion (IsChange n) (past H h) → IsBase n (base_of n h L)
-base_moved_on n H L h sound l most is each =
-    let early = up_to H h in
-    let mid = up_to L (past H h) in
-    let now = up_to L h in
-    let split : now ≡ early ++ mid = up_to_later H L h sound.in_order l in
-    let now_sound = front_sound n L h sound in
-    let split_sound : Sound n (early ++ mid) = subst (Sound n) split now_sound in
-    let mid_each = all_kept (IsChange n) (λ c. leb c.time L) (past H h) each in
-    let on : IsOn n L (replay now) = subst (λ c. IsOn n L (replay c)) (sym split) (moved_on n H L early mid l split_sound (record { formed = base_formed n (base_of n h H) is; stand = is.stand }) mid_each (times_by L (past H h))) in
-    let halves : Halves n early mid H = record { each = split_sound.each; by_then = times_by H h } in
-    let rows : AllByRecursion (IsMemberRow n) (rows_of_changes n now) = subst (λ c. AllByRecursion (IsMemberRow n) (rows_of_changes n c)) (sym split) (each_row (IsMemberRow n) n (early ++ mid) (row_formed n early mid H halves is.forms.rows mid_each)) in
+-- the base of changes up to a time, whose rows are in form
+pub base_is : (n L : ℕ) (now : List Change) → Sound n now → AllByRecursion (λ c. c.time ≤ L) now → L < 2 ^ 48 → IsOn n L (replay now) → AllByRecursion (IsMemberRow n) (rows_of_changes n now) → IsBase n (record { horizon = L; rows = rows_of_changes n now; state = replay now })
+base_is n L now sound by most on rows =
     let f = tables_formed n L (replay now) on.formed in
     record {
       forms = record {
@@ -260,7 +251,21 @@ base_moved_on n H L h sound l most is each =
       };
       rise = tables_rise (replay now);
       stand = on.stand;
-      lead_up = parents_lead_up now now_sound.in_order (times_some n now now_sound);
+      lead_up = parents_lead_up now sound.in_order (times_some n now sound);
       by_horizon = tables_by n L (replay now) on.formed;
-      rows_agree = rows_all_agree n now L now_sound (times_by L h) (tables_of (replay now));
+      rows_agree = rows_all_agree n now L sound by (tables_of (replay now));
     }
+
+pub base_moved_on : (n H L : ℕ) (h : List Change) → Sound n h → H ≤ L → L < 2 ^ 48 → IsBase n (base_of n h H) → AllByRecursion (IsChange n) (past H h) → IsBase n (base_of n h L)
+base_moved_on n H L h sound l most is each =
+    let early = up_to H h in
+    let mid = up_to L (past H h) in
+    let now = up_to L h in
+    let split : now ≡ early ++ mid = up_to_later H L h sound.in_order l in
+    let now_sound = front_sound n L h sound in
+    let split_sound : Sound n (early ++ mid) = subst (Sound n) split now_sound in
+    let mid_each = all_kept (IsChange n) (λ c. leb c.time L) (past H h) each in
+    let on : IsOn n L (replay now) = subst (λ c. IsOn n L (replay c)) (sym split) (moved_on n H L early mid l split_sound (record { formed = base_formed n (base_of n h H) is; stand = is.stand }) mid_each (times_by L (past H h))) in
+    let halves : Halves n early mid H = record { each = split_sound.each; by_then = times_by H h } in
+    let rows : AllByRecursion (IsMemberRow n) (rows_of_changes n now) = subst (λ c. AllByRecursion (IsMemberRow n) (rows_of_changes n c)) (sym split) (each_row (IsMemberRow n) n (early ++ mid) (row_formed n early mid H halves is.forms.rows mid_each)) in
+    base_is n L now now_sound (times_by L h) most on rows

@@ -160,7 +160,6 @@ take_least zero xs = omega arith
 take_least (suc k) [] = omega arith
 take_least (suc k) (x ∷ xs) = omega (arith, take_least k xs)
 
-
 not_true : (b : Bool) → not b ≡ false → b ≡ true
 not_true true e = refl
 not_true false e = absurd cc

@@ -110,11 +110,11 @@ module _ (n T : ℕ) (id : OpId) (timed : IsTimed n id) (by : id.time ≤ T) whe
   row_anchor {X} table owner at rows there is = (
     is,
     λ e.
-    let off : id_eq at.on root_id ≡ false = ap (λ q. id_eq q root_id) e in
-    let row : is_some (get table (owner, at.on)) ≡ true = rw off at there in
-    let late : 1 ≤ at.on.time =
-    elim (get table (owner, at.on)) as (λ o. get table (owner, at.on) ≡ o → is_some o ≡ true → 1 ≤ at.on.time) [ None ↦ λ _ bad. absurd cc | Some x ↦ λ g _. rows at.on x g ] refl row in
-    not_trash at.on late e,
+        let off : id_eq at.on root_id ≡ false = ap (λ q. id_eq q root_id) e in
+        let row : is_some (get table (owner, at.on)) ≡ true = rw off at there in
+        let late : 1 ≤ at.on.time =
+        elim (get table (owner, at.on)) as (λ o. get table (owner, at.on) ≡ o → is_some o ≡ true → 1 ≤ at.on.time) [ None ↦ λ _ bad. absurd cc | Some x ↦ λ g _. rows at.on x g ] refl row in
+        not_trash at.on late e,
   )
 
   position_row : (table : FinMap row_cmp Anchor) (owner : OpId) (at : Anchor) → EachRow (PositionIs n T) table → IsOpId n owner → IsAnchor n at → id_lt owner id ≡ true → id_lt at.on id ≡ true → has_anchor table owner at.on ≡ true → EachRow (PositionIs n T) (insert table (owner, id) at)

@@ -4,3 +4,7 @@ pub mod MemberRows
 pub mod BaseLaws
 pub mod SizeLaws
 pub mod EditForms
+pub mod StoredLaws
+pub mod MadeForms
+pub mod KeptFiles
+pub mod NewFiles

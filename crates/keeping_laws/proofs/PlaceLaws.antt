@@ -100,13 +100,13 @@ module _ (u : State) (id : OpId) (below : AreBelow u id) (s : Stand u) where
         own_position = λ q r p t g h same.
             elim (was q p g) as (λ _. q ≡ r) [
               | inl e ↦ elim (was r t h) as (λ _. q ≡ r) [
-                  | inl f ↦ e.0 ∙ sym f.0
-                  | inr k ↦ absurd (fresh t.parent t.position (s.nodes.position r t k) (sym same ∙ ap (λ (x : Place). x.position) e.1))
-                ]
+                | inl f ↦ e.0 ∙ sym f.0
+                | inr k ↦ absurd (fresh t.parent t.position (s.nodes.position r t k) (sym same ∙ ap (λ (x : Place). x.position) e.1))
+              ]
               | inr k ↦ elim (was r t h) as (λ _. q ≡ r) [
-                  | inl f ↦ absurd (fresh p.parent p.position (s.nodes.position q p k) (same ∙ ap (λ (x : Place). x.position) f.1))
-                  | inr l ↦ s.nodes.own_position q r p t k l same
-                ]
+                | inl f ↦ absurd (fresh p.parent p.position (s.nodes.position q p k) (same ∙ ap (λ (x : Place). x.position) f.1))
+                | inr l ↦ s.nodes.own_position q r p t k l same
+              ]
             ];
       }
 
@@ -172,13 +172,13 @@ module _ (u : State) (id : OpId) (below : AreBelow u id) (s : Stand u) where
         own_position = λ o q r e f g h same.
             elim (was o q e g) as (λ _. q ≡ r) [
               | inl k ↦ elim (was o r f h) as (λ _. q ≡ r) [
-                  | inl l ↦ ap (λ (z : RowKey). z.1) (k.0 ∙ sym l.0)
-                  | inr l ↦ absurd (fresh_item o f.position (s.elements.position o r f l) (sym same ∙ ap (λ (y : Element). y.position) k.1 ∙ at_id))
-                ]
+                | inl l ↦ ap (λ (z : RowKey). z.1) (k.0 ∙ sym l.0)
+                | inr l ↦ absurd (fresh_item o f.position (s.elements.position o r f l) (sym same ∙ ap (λ (y : Element). y.position) k.1 ∙ at_id))
+              ]
               | inr k ↦ elim (was o r f h) as (λ _. q ≡ r) [
-                  | inl l ↦ absurd (fresh_item o e.position (s.elements.position o q e k) (same ∙ ap (λ (y : Element). y.position) l.1 ∙ at_id))
-                  | inr l ↦ s.elements.own_position o q r e f k l same
-                ]
+                | inl l ↦ absurd (fresh_item o e.position (s.elements.position o q e k) (same ∙ ap (λ (y : Element). y.position) l.1 ∙ at_id))
+                | inr l ↦ s.elements.own_position o q r e f k l same
+              ]
             ];
       }
 
@@ -188,9 +188,12 @@ module _ (u : State) (id : OpId) (below : AreBelow u id) (s : Stand u) where
   element_edited k g keeps writes now ee el has =
       let was : (o q : OpId) (e : Element) → get now.elements (o, q) ≡ Some e → (d : Element) × (get u.elements (o, q) ≡ Some d) × (e.position ≡ d.position) × (id_lt e.writer q ≡ false) =
       λ o q e h.
-      let r = edited_row u.elements k g (o, q) e (ap (λ (m : FinMap row_cmp Element). get m (o, q)) (sym ee) ∙ h) in
-      (r.0, r.1, elim r.2 as (λ _. e.position ≡ r.0.position) [ inl m ↦ ap (λ (y : Element). y.position) m ∙ keeps r.0 | inr m ↦ ap (λ (y : Element). y.position) m ],
-        elim r.2 as (λ _. id_lt e.writer q ≡ false) [ inl m ↦ ap (λ (y : Element). id_lt y.writer q) m ∙ writes o q r.0 r.1 | inr m ↦ ap (λ (y : Element). id_lt y.writer q) m ∙ (s.elements.not_smaller o q r.0 r.1).1 ]) in
+      let r = edited_row u.elements k g (o, q) e (ap (λ (m : FinMap row_cmp Element). get m (o, q)) (sym ee) ∙ h) in (
+        r.0,
+        r.1,
+        elim r.2 as (λ _. e.position ≡ r.0.position) [ inl m ↦ ap (λ (y : Element). y.position) m ∙ keeps r.0 | inr m ↦ ap (λ (y : Element). y.position) m ],
+        elim r.2 as (λ _. id_lt e.writer q ≡ false) [ inl m ↦ ap (λ (y : Element). id_lt y.writer q) m ∙ writes o q r.0 r.1 | inr m ↦ ap (λ (y : Element). id_lt y.writer q) m ∙ (s.elements.not_smaller o q r.0 r.1).1 ],
+      ) in
       record {
         owner = λ o q e h. (let w = was o q e h in let p = s.elements.owner o q w.0 w.1 in (has o p.0, p.1));
         position = λ o q e h. (let w = was o q e h in ap (λ (m : FinMap row_cmp Anchor). is_some (get m (o, e.position))) el ∙ ap (λ p. is_some (get u.list_positions (o, p))) w.2 ∙ s.elements.position o q w.0 w.1);

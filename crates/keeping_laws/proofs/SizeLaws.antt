@@ -104,24 +104,42 @@ ids_most a xs most t = with_one (id_item a) xs 36 most (id_most a) t
 pub operation_most : (n : ℕ) (o : Operation) → IsOperation n o → length (spell (operation_item o)) ≤ 1048576
 operation_most n (new_node parent at) h = omega (arith, kind_first 0 (id_item parent ∷ id_item at.on ∷ side_item at.side ∷ []) 81 (ids_most parent (id_item at.on ∷ side_item at.side ∷ []) 45 (at_most at [] 0 none)))
 operation_most n (move_node child parent at) h =
-    omega (arith, kind_first 1 (id_item child ∷ id_item parent ∷ id_item at.on ∷ side_item at.side ∷ []) 117
-    (ids_most child (id_item parent ∷ id_item at.on ∷ side_item at.side ∷ []) 81 (ids_most parent (id_item at.on ∷ side_item at.side ∷ []) 45 (at_most at [] 0 none))))
+    omega (
+      arith,
+      kind_first 1 (id_item child ∷ id_item parent ∷ id_item at.on ∷ side_item at.side ∷ []) 117
+          (ids_most child (id_item parent ∷ id_item at.on ∷ side_item at.side ∷ []) 81 (ids_most parent (id_item at.on ∷ side_item at.side ∷ []) 45 (at_most at [] 0 none))),
+    )
 operation_most n (put_key node key value) h =
-    omega (arith, kind_first 2 (id_item node ∷ cbor.text key ∷ value_item value ∷ []) 65846
-    (ids_most node (cbor.text key ∷ value_item value ∷ []) 65810 (with_one (cbor.text key) (value_item value ∷ []) 265 65545 (key_most key h.1) (with_one (value_item value) [] 65545 0 (value_most value h.2) none))))
+    omega (
+      arith,
+      kind_first 2 (id_item node ∷ cbor.text key ∷ value_item value ∷ []) 65846
+          (ids_most node (cbor.text key ∷ value_item value ∷ []) 65810 (with_one (cbor.text key) (value_item value ∷ []) 265 65545 (key_most key h.1) (with_one (value_item value) [] 65545 0 (value_most value h.2) none))),
+    )
 operation_most n (type_text node at cs) h =
-    omega (arith, kind_first 3 (id_item node ∷ id_item at.on ∷ side_item at.side ∷ cbor.text (utf8 cs) ∷ []) 16474
-    (ids_most node (id_item at.on ∷ side_item at.side ∷ cbor.text (utf8 cs) ∷ []) 16438 (at_most at (cbor.text (utf8 cs) ∷ []) 16393 (with_one (cbor.text (utf8 cs)) [] 16393 0 (typed_most cs h.2.most) none))))
+    omega (
+      arith,
+      kind_first 3 (id_item node ∷ id_item at.on ∷ side_item at.side ∷ cbor.text (utf8 cs) ∷ []) 16474
+          (ids_most node (id_item at.on ∷ side_item at.side ∷ cbor.text (utf8 cs) ∷ []) 16438 (at_most at (cbor.text (utf8 cs) ∷ []) 16393 (with_one (cbor.text (utf8 cs)) [] 16393 0 (typed_most cs h.2.most) none))),
+    )
 operation_most n (erase_text node first count) h = omega (arith, erase_most node first count)
 operation_most n (add_item node at value) h =
-    omega (arith, kind_first 5 (id_item node ∷ id_item at.on ∷ side_item at.side ∷ value_item value ∷ []) 65626
-    (ids_most node (id_item at.on ∷ side_item at.side ∷ value_item value ∷ []) 65590 (at_most at (value_item value ∷ []) 65545 (with_one (value_item value) [] 65545 0 (value_most value h.2) none))))
+    omega (
+      arith,
+      kind_first 5 (id_item node ∷ id_item at.on ∷ side_item at.side ∷ value_item value ∷ []) 65626
+          (ids_most node (id_item at.on ∷ side_item at.side ∷ value_item value ∷ []) 65590 (at_most at (value_item value ∷ []) 65545 (with_one (value_item value) [] 65545 0 (value_most value h.2) none))),
+    )
 operation_most n (shift_item node element at) h =
-    omega (arith, kind_first 6 (id_item node ∷ id_item element ∷ id_item at.on ∷ side_item at.side ∷ []) 117
-    (ids_most node (id_item element ∷ id_item at.on ∷ side_item at.side ∷ []) 81 (ids_most element (id_item at.on ∷ side_item at.side ∷ []) 45 (at_most at [] 0 none))))
+    omega (
+      arith,
+      kind_first 6 (id_item node ∷ id_item element ∷ id_item at.on ∷ side_item at.side ∷ []) 117
+          (ids_most node (id_item element ∷ id_item at.on ∷ side_item at.side ∷ []) 81 (ids_most element (id_item at.on ∷ side_item at.side ∷ []) 45 (at_most at [] 0 none))),
+    )
 operation_most n (set_item node element value) h =
-    omega (arith, kind_first 7 (id_item node ∷ id_item element ∷ value_item value ∷ []) 65617
-    (ids_most node (id_item element ∷ value_item value ∷ []) 65581 (ids_most element (value_item value ∷ []) 65545 (with_one (value_item value) [] 65545 0 (value_most value h.2) none))))
+    omega (
+      arith,
+      kind_first 7 (id_item node ∷ id_item element ∷ value_item value ∷ []) 65617
+          (ids_most node (id_item element ∷ value_item value ∷ []) 65581 (ids_most element (value_item value ∷ []) 65545 (with_one (value_item value) [] 65545 0 (value_most value h.2) none))),
+    )
 operation_most n (drop_item node element) h = omega (arith, kind_first 8 (id_item node ∷ id_item element ∷ []) 72 (ids_most node (id_item element ∷ []) 36 (ids_most element [] 0 none)))
 
 -- an operation that erases, of whatever characters
