@@ -1,17 +1,17 @@
 -- A whole change arrives.
-use Rattle.std.proofs.Common.{◌≡◌, true, List, [], ◌∷◌, ◌++◌, refl, sym, ap, subst, ◌∙◌}
+use Rattle.std.proofs.Common.{◌≡◌, ℕ, true, List, [], ◌∷◌, ◌++◌, refl, sym, ap, subst, ◌∙◌}
 use Rattle.std.specs.Prelude.{fold}
 use Rattle.std.specs.List.{AllByRecursion}
 use Rattle.std.proofs.lemmas.List.{append_assoc}
 use Rattle.op_ids.specs.Order.{id_lt}
-use Rattle.model.specs.Change.{EachAfter}
+use Rattle.model.specs.Change.{Change, EachAfter}
 use Rattle.model.specs.Held.{held}
-use Rattle.model.specs.Ledger.{Joins, add}
+use Rattle.model.specs.Ledger.{Joins, Sound, add}
 use Rattle.model.specs.State.{State, Atom, by_ids, change_atoms, atoms, replay, after, empty_state}
-use Rattle.model_laws.specs.Arrival.{contents, late, Rises, AreBelow}
+use Rattle.model_laws.specs.Arrival.{contents, late, nodes_moved, with_nodes, Rises, AreBelow}
 use Rattle.arrival_laws.specs.Joining.{ChangesArrive}
 use Rattle.arrival_laws.proofs.AddLaws.{earlier, later, in_two, order_from, is_last}
-use Rattle.model_laws.proofs.ArrivalLaws.{after_done, Good, GoodAlong, done_one, all_done, all_late, below_next, good_more, contents_done, passes}
+use Rattle.model_laws.proofs.ArrivalLaws.{after_done, Good, GoodAlong, done_one, all_done, all_late, below_next, good_more, contents_done, nodes_done, passes}
 use Rattle.model_laws.proofs.Contents.{late_in_place}
 use Rattle.arrival_laws.proofs.DocumentLaws.{each_below, rises_back}
 use Rattle.model_laws.proofs.ListLaws.{all_front, all_back}
@@ -30,14 +30,14 @@ good_of_right u (a ∷ list) s r b g =
     (good, good_of_right (done_one u a) list s.1 r.1 (below_next u a list good r.0 b.1) g.1)
 
 -- each of these comes before each of those
-abbrev AllBefore : List Atom → List Atom → Type 0
+abbrev pub AllBefore : List Atom → List Atom → Type 0
 AllBefore xs ys = AllByRecursion (λ x. AllByRecursion (λ y. id_lt x.id y.id ≡ true) ys) xs
 
-rises_apart : (xs ys : List Atom) → Rises (xs ++ ys) → AllBefore xs ys
+pub rises_apart : (xs ys : List Atom) → Rises (xs ++ ys) → AllBefore xs ys
 rises_apart [] ys r = tt
 rises_apart (x ∷ xs) ys r = (all_back (λ y. id_lt x.id y.id ≡ true) xs ys r.0, rises_apart xs ys r.1)
 
-rises_front : (xs ys : List Atom) → Rises (xs ++ ys) → Rises xs
+pub rises_front : (xs ys : List Atom) → Rises (xs ++ ys) → Rises xs
 rises_front [] ys r = tt
 rises_front (x ∷ xs) ys r = (all_front (λ y. id_lt x.id y.id ≡ true) xs ys r.0, rises_front xs ys r.1)
 
@@ -58,6 +58,12 @@ late_all v (x ∷ new) old g k r l b =
 below_along_all : (u : State) (new old : List Atom) → GoodAlong u new → AllBefore new old → AllByRecursion (λ b. AreBelow u b.id) old → AllByRecursion (λ b. AreBelow (all_done u new) b.id) old
 below_along_all u [] old g l b = b
 below_along_all u (x ∷ new) old g l b = below_along_all (done_one u x) new old g.1 l.1 (below_next u x old g.0 l.0 b)
+
+-- the nodes of a ledger are moved by all its operations
+nodes_of : (n : ℕ) (h : List Change) → Sound n h → (replay h).nodes ≡ nodes_moved empty_state.nodes (atoms h)
+nodes_of n h sound =
+    let right = right_along [] h (each_more (Joins n) Refers (joins_refers n) [] h sound.each) in
+    ap (λ v. v.nodes) (after_right empty_state (atoms h) right) ∙ nodes_done empty_state (atoms h)
 
 pub changes_arrive : ChangesArrive
 changes_arrive n h c sound among joins =
@@ -88,4 +94,7 @@ changes_arrive n h c sound among joins =
     ap replay (sym (append_assoc front (c ∷ []) back)) ∙ replay-append (front ++ c ∷ []) back ∙ ap (λ s. after s old) (replay_done front c refers) in
     let more = good_more u (all_done u new) old (has_after u new (change_single c)) (below_along_all u new old new_good (rises_apart new old behind) old_below) (rises_back new old behind) old_good in
     let before : replay h ≡ all_done u old = ap replay two ∙ replay-append front back ∙ after_right u old old_right in
-    ap contents (now ∙ after_done (all_done u new) old more) ∙ late_all u new old new_good old_good (rises_back new old behind) (rises_apart new old behind) old_below ∙ ap (λ s. fold late (contents s) new) (sym before)
+    let nodes : (replay (add h c)).nodes ≡ nodes_moved empty_state.nodes (atoms (add h c)) = nodes_of n (add h c) (stays_sound n h c sound among joins) in
+    let tables : contents (replay (add h c)) ≡ fold late (contents (replay h)) (change_atoms c) =
+    ap contents (now ∙ after_done (all_done u new) old more) ∙ late_all u new old new_good old_good (rises_back new old behind) (rises_apart new old behind) old_below ∙ ap (λ s. fold late (contents s) new) (sym before) in
+    record { contents_late = tables; nodes_anew = nodes; whole = λ i. with_nodes (nodes i) (tables i) }

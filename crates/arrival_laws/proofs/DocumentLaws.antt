@@ -1,24 +1,27 @@
 -- A file that stands for a ledger is a document of the operations that it keeps.
-use Rattle.std.proofs.Common.{◌≡◌, ℕ, true, false, List, [], ◌∷◌, ◌++◌, sym, ap, subst, ◌∙◌}
+use Rattle.std.proofs.Common.{◌≡◌, ℕ, ◌<◌, true, false, List, [], ◌∷◌, ◌++◌, sym, ap, subst, ◌∙◌}
 use Rattle.std.specs.Prelude.{is_some}
 use Rattle.std.specs.List.{AllByRecursion}
 use Rattle.std.specs.FinMap.{get, get-empty, empty}
 use Rattle.std.proofs.lemmas.Option.{same_Some}
 use Rattle.std.specs.declared.cmp.Ordering.{Ordering}
-use Rattle.op_ids.specs.Order.{id_cmp, id_lt}
+use Rattle.std.specs.Ordering.{is_lt}
+use Rattle.op_ids.specs.Order.{id_cmp, id_lt, stamp_lt, stamp_of}
+use Rattle.op_ids.proofs.OrderLaws.{lt_from_stamps}
 use Rattle.op_ids.specs.declared.OpId.{OpId}
 use Rattle.model.specs.Base.{Base, base_of, up_to, past}
-use Rattle.model.specs.Change.{Change}
+use Rattle.model.specs.Change.{EachAfter, change_stamp, Change}
 use Rattle.model.specs.Ledger.{Sound, Joins}
 use Rattle.model.specs.Operation.{Anchor}
-use Rattle.model.specs.State.{Place, Character, Element, State, Atom, row_cmp, register_cmp, replay, atoms, empty_state, named}
+use Rattle.model.specs.State.{change_atoms, Place, Character, Element, State, Atom, row_cmp, register_cmp, replay, atoms, empty_state, named}
 use Rattle.model_laws.specs.Arrival.{Rises, AreBelow, IsMadeOf, ReferInTurn, writer_is_before}
 use Rattle.arrival_laws.specs.Document.{FileIsDocument}
 use Rattle.model_laws.proofs.ArrivalLaws.{done_one, all_done}
-use Rattle.model_laws.proofs.ListLaws.{all_append, all_front, all_back}
+use Rattle.model_laws.proofs.ChangeLaws.{stamp_less}
+use Rattle.model_laws.proofs.ListLaws.{all_append, all_front, all_back, all_more}
 use Rattle.model_laws.proofs.Presence.{names_right, child_there, done_below}
 use Rattle.arrival_laws.proofs.ReferLaws.{right_front, RightAlong, AllSingle, after_right, step_right}
-use Rattle.model_laws.proofs.Rising.{Rises-atoms}
+use Rattle.model_laws.proofs.Rising.{IsFrom, Rises-atoms, all_from}
 use Rattle.arrival_laws.proofs.SoundLaws.{Refers, each_more, joins_refers, right_along, atoms_single, atoms-append, back_of}
 use Rattle.model_laws.proofs.TrimLaws.{up_to-append-past}
 
@@ -41,6 +44,19 @@ empty_below i = record {
 pub below_right : (u : State) (i : OpId) (list : List Atom) → AllSingle list → AllByRecursion (λ a. id_lt a.id i ≡ true) list → RightAlong u list → AreBelow u i → AreBelow (all_done u list) i
 below_right u i [] s l g b = b
 below_right u i (a ∷ list) s l g b = below_right (done_one u a) i list s.1 l.1 g.1 (done_below u a.id i a.operation s.0 (child_there u a.operation g.0.there) l.0 b)
+
+-- all ids of a ledger's document are smaller than a later one
+atoms_before : (i : OpId) (h : List Change) → AllByRecursion (λ x. x.time < i.time) h → AllByRecursion (λ a. id_lt a.id i ≡ true) (atoms h)
+atoms_before i [] l = tt
+atoms_before i (c ∷ h) l =
+    all_append (λ a. id_lt a.id i ≡ true) (change_atoms c) (atoms h)
+    (all_more (IsFrom (change_stamp c) 0) (λ a. id_lt a.id i ≡ true) (λ a from. lt_from_stamps a.id i (ap (λ s. stamp_lt s (stamp_of i)) from.stamp ∙ ap is_lt (stamp_less (change_stamp c) (stamp_of i) l.0))) (change_atoms c) (all_from c.time c.member 0 c.operations))
+    (atoms_before i h l.1)
+
+pub below_replay : (n : ℕ) (h : List Change) (i : OpId) → EachAfter (Joins n) [] h → AllByRecursion (λ x. x.time < i.time) h → AreBelow (replay h) i
+below_replay n h i each l =
+    let right = right_along [] h (each_more (Joins n) Refers (joins_refers n) [] h each) in
+    subst (λ u. AreBelow u i) (sym (after_right empty_state (atoms h) right)) (below_right empty_state i (atoms h) (atoms_single h) (atoms_before i h l) right (empty_below i))
 
 refer_in_turn : (u : State) (list : List Atom) → RightAlong u list → ReferInTurn u list
 refer_in_turn u [] g = tt

@@ -6,3 +6,5 @@ pub mod ReadLaws
 pub mod DocumentLaws
 pub mod ChangeArrival
 pub mod InLaws
+pub mod ComeLaws
+pub mod TimeLaws

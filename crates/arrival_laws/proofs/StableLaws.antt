@@ -158,6 +158,10 @@ horizon_members n h =
     let lasts = map (λ m. last_of h m) (members n) in
     all_from_map (λ t. horizon_of n h ≤ t) (λ m. last_of h m) (members n) (all_front (λ t. horizon_of n h ≤ t) lasts (map before_it (unstable n h h)) (least_most (lasts ++ map before_it (unstable n h h))))
 
+-- a later change of a member is past the horizon
+pub past_horizon : (n T : ℕ) (h : List Change) (c : Change) → T ≤ horizon_of n h → c.member < n → last_of h c.member < c.time → T < c.time
+past_horizon n T h c r below late = let l : horizon_of n h ≤ last_of h c.member = of_member (λ m. horizon_of n h ≤ last_of h m) n c.member (horizon_members n h) below in omega arith
+
 pub horizon_changes : (n : ℕ) (h : List Change) → AllByRecursion (λ d. horizon_of n h ≤ before_it d) (unstable n h h)
 horizon_changes n h =
     let lasts = map (λ m. last_of h m) (members n) in

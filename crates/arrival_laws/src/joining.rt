@@ -12,7 +12,7 @@ pub fn ledger_stays_sound()
     ensures { StaysSound }
 {}
 
-/// The tables of a ledger with a change that joins it are those of the ledger with the change's operations done late.
+/// The document of a ledger with a change that joins it is that of the ledger with the change's operations done late, and the moves anew.
 pub fn changes_arrive()
     ensures { ChangesArrive }
 {}

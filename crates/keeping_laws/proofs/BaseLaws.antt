@@ -1,49 +1,44 @@
 -- A base that is moved on to a later time keeps the rules of bases.
-use Rattle.std.proofs.Common.{◌≡◌, ℕ, ◌+◌, ◌<◌, ◌≤◌, ◌^◌, T, Bool, sum_by, true, false, leb, List, [], ◌∷◌, ◌++◌, length, refl, sym, ap, subst, ◌∙◌, arith, inl, inr}
+use Rattle.std.proofs.Common.{◌≡◌, ℕ, ◌+◌, ◌<◌, ◌≤◌, ◌^◌, sum_by, true, leb, List, [], ◌∷◌, ◌++◌, length, refl, sym, ap, subst, ◌∙◌, arith, inl, inr}
 use Rattle.std.specs.Prelude.{Some, flat_map}
 use Rattle.std.proofs.lemmas.List.Sums.{sum_by-cons}
 use Rattle.std.specs.List.{AllByRecursion}
-use Rattle.std.specs.List.Sorted.{IsStrictlySortedBy}
 use Rattle.std.specs.Char.{IsScalar}
-use Rattle.std.specs.Ordering.{is_lt, eq_by_cmp}
+use Rattle.std.specs.Ordering.{eq_by_cmp}
 use Rattle.std.specs.Cmp.{IsTotalOrder}
-use Rattle.std.specs.FinMap.{FinMap, get, entries, get-entries, entries_sorted, IsAntisymmetric}
+use Rattle.std.specs.FinMap.{FinMap, get, entries, get-entries, IsAntisymmetric}
 use Rattle.std.specs.FinMap.Entries as es
 use Rattle.std.specs.declared.cmp.Ordering.{Ordering}
-use Rattle.std.specs.declared.cmp.Ordering.TheVariants.{Less}
 use Rattle.std.proofs.lemmas.Bool.{leb-true, le-leb}
 use Rattle.std.proofs.lemmas.List.FromFn.{length-map-range_with_len}
 use Rattle.op_ids.specs.declared.OpId.{OpId}
 use Rattle.op_ids.specs.Order.{id_cmp}
-use Rattle.op_ids.proofs.OrderLaws.{id_cmp_total, id_cmp_exact, less_from_is_lt}
+use Rattle.op_ids.proofs.OrderLaws.{id_cmp_total, id_cmp_exact}
 use Rattle.model.specs.Value.{IsOpId}
 use Rattle.model.specs.Operation.{Anchor, Operation, IsAnchor, IsOperation, width_of, new_node, move_node, put_key, type_text, erase_text, add_item, shift_item, set_item, drop_item}
 use Rattle.model.specs.Change.{AreInTimeOrder, Change, IsChange, EachAfter}
 use Rattle.model.specs.State.{State, row_cmp, register_cmp, apart, characters_apart, right_of, by_ids, change_atoms, atoms, replay}
 use Rattle.model.specs.Base.{Base, base_of, past, up_to, member_row, rows_of_changes}
-use Rattle.model.specs.BaseItem.{keys, tables_of, IsTimed, IsMemberRow, IsNodeRow, IsPositionRow, IsRegisterRow, IsCharacterRow, IsElementRow, AreBy, TablesRise, TablesBy, Stand}
+use Rattle.model.specs.BaseItem.{tables_of, IsTimed, IsMemberRow, IsNodeRow, IsPositionRow, IsRegisterRow, IsCharacterRow, IsElementRow, AreBy, TablesRise, TablesBy, Stand}
 use Rattle.model.specs.File.{IsBase}
 use Rattle.model.specs.Ledger.{Sound, IsAmong, Joins}
 use Rattle.model_laws.proofs.ArrivalLaws.{after_done, all_done, good_along}
 use Rattle.model_laws.proofs.ChangeLaws.{EachAfter-front}
 use Rattle.model_laws.proofs.ListLaws.{all_append, all_both, all_more, filter_all}
 use Rattle.model_laws.proofs.NodeLaws.{parents_lead_up}
-use Rattle.model_laws.proofs.Tables.{both_true, key_cases, key_itself, register_exact, register_total, row_exact, row_total}
+use Rattle.model_laws.proofs.Tables.{key_cases, key_itself, keys_rise, register_exact, register_total, row_exact, row_total}
 use Rattle.model_laws.proofs.TrimLaws.{replay-append, up_to-append-past}
 use Rattle.arrival_laws.proofs.AddLaws.{all_kept, all_pass, filter-append, order_from, to_order}
 use Rattle.arrival_laws.proofs.DocumentLaws.{made_of}
 use Rattle.arrival_laws.proofs.ReadLaws.{Halves}
 use Rattle.arrival_laws.proofs.SoundLaws.{order_kept}
+use Rattle.arrival_laws.proofs.TimeLaws.{times_by, up_to_later}
 use Rattle.ledger_laws.proofs.RowLaws.{got_each}
 use Rattle.keeping_laws.proofs.FormLaws.{AtomIs, EachRow, Formed, formed_along}
 use Rattle.keeping_laws.proofs.MemberRows.{each_row, row_formed, rows_all_agree, times_some}
 use Rattle.keeping_laws.proofs.PlaceLaws.{stand_along}
 
 -- ---- tables and their entries
-
-is_true : (b : Bool) → T b → b ≡ true
-is_true true t = refl
-is_true false t = absurd t
 
 module _ {K X : Type 0} {R : K → K → Ordering} (o : IsTotalOrder R) (exact : IsAntisymmetric R) where
   found_row : (P : K × X → Type 0) (list : List (K × X)) (k : K) (x : X) → AllByRecursion P list → es.find R k list ≡ Some x → P (k, x)
@@ -65,27 +60,14 @@ module _ {K X : Type 0} {R : K → K → Ordering} (o : IsTotalOrder R) (exact :
   to_rows : (P : K × X → Type 0) (m : FinMap R X) → EachRow P m → AllByRecursion P (entries m)
   to_rows P m h = all_more (λ e. get m e.0 ≡ Some e.1) P (λ e g. h e.0 e.1 g) (entries m) (got_each o m)
 
-module _ {K X : Type 0} (R : K → K → Ordering) where
-  below_less : (k : K) (list : List (K × X)) → es.below_all R k list ≡ true → AllByRecursion (λ y. R k y ≡ Less) (keys list)
-  below_less k [] h = tt
-  below_less k (e ∷ list) h = let b = both_true (is_lt (R k e.0)) (es.below_all R k list) h in (less_from_is_lt (R k e.0) b.0, below_less k list b.1)
-
-  rises_from : (list : List (K × X)) → es.is_sorted R list ≡ true → IsStrictlySortedBy R (keys list)
-  unfolding IsStrictlySortedBy
-  rises_from [] h = tt
-  rises_from (e ∷ list) h = let b = both_true (es.below_all R e.0 list) (es.is_sorted R list) h in (below_less e.0 list b.0, rises_from list b.1)
-
-  rises : (m : FinMap R X) → IsStrictlySortedBy R (keys (entries m))
-  rises m = rises_from (entries m) (is_true (es.is_sorted R (entries m)) (entries_sorted m))
-
 pub tables_rise : (s : State) → TablesRise (tables_of s)
 tables_rise s = record {
-  nodes = rises id_cmp s.nodes;
-  positions = rises row_cmp s.positions;
-  registers = rises register_cmp s.registers;
-  texts = rises row_cmp s.texts;
-  list_positions = rises row_cmp s.list_positions;
-  elements = rises row_cmp s.elements;
+  nodes = keys_rise id_cmp s.nodes;
+  positions = keys_rise row_cmp s.positions;
+  registers = keys_rise register_cmp s.registers;
+  texts = keys_rise row_cmp s.texts;
+  list_positions = keys_rise row_cmp s.list_positions;
+  elements = keys_rise row_cmp s.elements;
 }
 
 -- the tables are in form
@@ -223,15 +205,6 @@ front_sound n L h sound = record {
   among = all_kept (IsAmong n) (λ c. leb c.time L) h sound.among;
   each = EachAfter-front (Joins n) [] (up_to L h) (past L h) (subst (λ l. EachAfter (Joins n) [] l) (sym (up_to-append-past L h sound.in_order)) sound.each);
 }
-
-pub times_by : (L : ℕ) (h : List Change) → AllByRecursion (λ c. c.time ≤ L) (up_to L h)
-times_by L h = all_more (λ c. leb c.time L ≡ true) (λ c. c.time ≤ L) (λ c e. leb-true c.time L e) (up_to L h) (all_pass (λ c. leb c.time L) h)
-
--- the changes up to a time are those up to an earlier one, and those between
-pub up_to_later : (H L : ℕ) (h : List Change) → AreInTimeOrder h → H ≤ L → up_to L h ≡ up_to H h ++ up_to L (past H h)
-up_to_later H L h order l =
-    ap (up_to L) (sym (up_to-append-past H h order)) ∙ filter-append (λ c. leb c.time L) (up_to H h) (past H h)
-    ∙ ap (λ front. front ++ up_to L (past H h)) (filter_all (λ c. leb c.time L) (up_to H h) (all_more (λ c. c.time ≤ H) (λ c. leb c.time L ≡ true) (λ c k. le-leb c.time L (omega arith)) (up_to H h) (times_by H h)))
 
 -- the base of changes up to a time, whose rows are in form
 pub base_is : (n L : ℕ) (now : List Change) → Sound n now → AllByRecursion (λ c. c.time ≤ L) now → L < 2 ^ 48 → IsOn n L (replay now) → AllByRecursion (IsMemberRow n) (rows_of_changes n now) → IsBase n (record { horizon = L; rows = rows_of_changes n now; state = replay now })

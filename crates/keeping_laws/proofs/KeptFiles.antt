@@ -25,6 +25,7 @@ use Rattle.model_laws.proofs.ListLaws.{all_append, all_from_map, all_more, fold_
 use Rattle.model_laws.proofs.TrimLaws.{up_to-append-past}
 use Rattle.arrival_laws.proofs.AddLaws.{all_kept, filter-append}
 use Rattle.arrival_laws.proofs.ReadLaws.{Halves}
+use Rattle.arrival_laws.proofs.TimeLaws.{times_by}
 use Rattle.arrival_laws.proofs.StableLaws.{horizon_members, of_member}
 use Rattle.ledger_laws.proofs.MadeLaws.{AreHeld, Keeps, acks_of_file, are_held, grown_stands, starts}
 use Rattle.ledger_laws.proofs.OrderedLaws.{standing_keep_order}
@@ -33,7 +34,7 @@ use Rattle.ledger_laws.proofs.StoreLaws.{stored_files_stand}
 use Rattle.ledger_laws.specs.Making.{MadeStand}
 use Rattle.keeping_laws.specs.Forms.{IsEdit}
 use Rattle.keeping_laws.specs.Keeping.{StoredKeepRules}
-use Rattle.keeping_laws.proofs.BaseLaws.{IsOn, base_formed, base_moved_on, moved_on, times_by}
+use Rattle.keeping_laws.proofs.BaseLaws.{IsOn, base_formed, base_moved_on, moved_on}
 use Rattle.keeping_laws.proofs.MadeForms.{AreMadeOf, CountsFit, acks_are, edits_are}
 use Rattle.keeping_laws.proofs.MemberRows.{row_formed}
 use Rattle.keeping_laws.proofs.StoredLaws.{begun_file, bundled, fewer_kept, names_each, names_from, names_kept, nil_sorted, released, took}

@@ -3,7 +3,7 @@ use Rattle.std.proofs.Common.{◌≡◌, ◌≢◌, ℕ, zero, suc, ◌+◌, ◌
 use Rattle.std.specs.Prelude.{if◌then◌else◌, Some, None, filter, fold, IfSome}
 use Rattle.std.specs.List.{AllByRecursion}
 use Rattle.std.proofs.lemmas.Bool.{cases_eq, cases_lt, eq-eqb, ne_eqb, lt-leb, le-leb}
-use Rattle.model.specs.Base.{rows_of_changes, Base, base_of, count_of, last_of, up_to, past}
+use Rattle.model.specs.Base.{rows_of_changes, Base, base_of, count_of, up_to, past}
 use Rattle.model.specs.Change.{Change, name_of, has_name, in_order}
 use Rattle.model.specs.Command.{settled, horizon_at}
 use Rattle.model.specs.Held.{Misfit, held, is_known, is_ready, waits, fits}
@@ -17,7 +17,7 @@ use Rattle.arrival_laws.proofs.AddLaws.{order_from, is_last, in_two, count_added
 use Rattle.model_laws.proofs.ListLaws.{all_append, all_more, all_both}
 use Rattle.ledger_laws.proofs.SettleLaws.{least_is, all_taken, all_placed, nothing_ready_waits}
 use Rattle.arrival_laws.proofs.SoundLaws.{stays_sound, ready_from}
-use Rattle.arrival_laws.proofs.StableLaws.{fitting, of_member, horizon_members, stability_never_falls}
+use Rattle.arrival_laws.proofs.StableLaws.{past_horizon, fitting, stability_never_falls}
 
 -- what holds while settling goes on, above a time
 pub record Goes (n T : ℕ) (base : Base) (s : Settling) : Type 0 where
@@ -47,9 +47,6 @@ other_number c d e m q =
     let bad : not true ≡ true = rw (t, u) at e in cc
 
 -- ---- a change that joins
-
-pub past_horizon : (n T : ℕ) (h : List Change) (c : Change) → T ≤ horizon_of n h → c.member < n → last_of h c.member < c.time → T < c.time
-past_horizon n T h c r below late = let l : horizon_of n h ≤ last_of h c.member = of_member (λ m. horizon_of n h ≤ last_of h m) n c.member (horizon_members n h) below in omega arith
 
 pub same_early : (T : ℕ) (h : List Change) (c : Change) → place.InOrder h → place.IsLast h c → T < c.time → up_to T (add h c) ≡ up_to T h
 same_early T h c r l late =

@@ -9,3 +9,4 @@ pub mod Rising
 pub mod ChangeLaws
 pub mod TrimLaws
 pub mod KeptTables
+pub mod AllArrivals
