@@ -1,5 +1,5 @@
 -- A base that is moved on to a later time keeps the rules of bases.
-use Rattle.std.proofs.Common.{◌≡◌, ℕ, ◌+◌, ◌<◌, ◌≤◌, ◌^◌, sum_by, true, leb, List, [], ◌∷◌, ◌++◌, length, refl, sym, ap, subst, ◌∙◌, arith, inl, inr}
+use Rattle.std.proofs.Common.{◌≡◌, ℕ, ◌+◌, ◌<◌, ◌≤◌, ◌^◌, sum_by, true, leb, List, [], ◌∷◌, ◌++◌, length, refl, sym, subst, ◌∙◌, arith, inl, inr}
 use Rattle.std.specs.Prelude.{Some, flat_map}
 use Rattle.std.proofs.lemmas.List.Sums.{sum_by-cons}
 use Rattle.std.specs.List.{AllByRecursion}
@@ -9,14 +9,13 @@ use Rattle.std.specs.Cmp.{IsTotalOrder}
 use Rattle.std.specs.FinMap.{FinMap, get, entries, get-entries, IsAntisymmetric}
 use Rattle.std.specs.FinMap.Entries as es
 use Rattle.std.specs.declared.cmp.Ordering.{Ordering}
-use Rattle.std.proofs.lemmas.Bool.{leb-true, le-leb}
 use Rattle.std.proofs.lemmas.List.FromFn.{length-map-range_with_len}
 use Rattle.op_ids.specs.declared.OpId.{OpId}
 use Rattle.op_ids.specs.Order.{id_cmp}
 use Rattle.op_ids.proofs.OrderLaws.{id_cmp_total, id_cmp_exact}
 use Rattle.model.specs.Value.{IsOpId}
 use Rattle.model.specs.Operation.{Anchor, Operation, IsAnchor, IsOperation, width_of, new_node, move_node, put_key, type_text, erase_text, add_item, shift_item, set_item, drop_item}
-use Rattle.model.specs.Change.{AreInTimeOrder, Change, IsChange, EachAfter}
+use Rattle.model.specs.Change.{Change, IsChange, EachAfter}
 use Rattle.model.specs.State.{State, row_cmp, register_cmp, apart, characters_apart, right_of, by_ids, change_atoms, atoms, replay}
 use Rattle.model.specs.Base.{Base, base_of, past, up_to, member_row, rows_of_changes}
 use Rattle.model.specs.BaseItem.{tables_of, IsTimed, IsMemberRow, IsNodeRow, IsPositionRow, IsRegisterRow, IsCharacterRow, IsElementRow, AreBy, TablesRise, TablesBy, Stand}
@@ -24,11 +23,11 @@ use Rattle.model.specs.File.{IsBase}
 use Rattle.model.specs.Ledger.{Sound, IsAmong, Joins}
 use Rattle.model_laws.proofs.ArrivalLaws.{after_done, all_done, good_along}
 use Rattle.model_laws.proofs.ChangeLaws.{EachAfter-front}
-use Rattle.model_laws.proofs.ListLaws.{all_append, all_both, all_more, filter_all}
+use Rattle.model_laws.proofs.ListLaws.{all_append, all_both, all_more}
 use Rattle.model_laws.proofs.NodeLaws.{parents_lead_up}
 use Rattle.model_laws.proofs.Tables.{key_cases, key_itself, keys_rise, register_exact, register_total, row_exact, row_total}
 use Rattle.model_laws.proofs.TrimLaws.{replay-append, up_to-append-past}
-use Rattle.arrival_laws.proofs.AddLaws.{all_kept, all_pass, filter-append, order_from, to_order}
+use Rattle.arrival_laws.proofs.AddLaws.{all_kept, order_from, to_order}
 use Rattle.arrival_laws.proofs.DocumentLaws.{made_of}
 use Rattle.arrival_laws.proofs.ReadLaws.{Halves}
 use Rattle.arrival_laws.proofs.SoundLaws.{order_kept}

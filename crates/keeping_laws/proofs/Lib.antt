@@ -8,3 +8,4 @@ pub mod StoredLaws
 pub mod MadeForms
 pub mod KeptFiles
 pub mod NewFiles
+pub mod WrittenLaws

@@ -2,6 +2,7 @@
 #![tactic(auto)]
 
 ghost use Rattle.keeping_laws.specs.Keeping.{FoundKeepsRules, StoredKeepRules};
+ghost use Rattle.keeping_laws.specs.Writing.{WrittenAreStored};
 
 /// Whatever a command stores of a stored file that stands for a ledger keeps every rule of files.
 pub fn stored_keep_rules()
@@ -11,4 +12,9 @@ pub fn stored_keep_rules()
 /// The file of a new document keeps every rule of files.
 pub fn found_keeps_rules()
     ensures { FoundKeepsRules }
+{}
+
+/// Where the spelling of what a command stores is written, and isn't too long, what it stores is a stored file.
+pub fn written_files_are_stored()
+    ensures { WrittenAreStored }
 {}

@@ -1,20 +1,19 @@
 -- What a file tells by itself is what its ledger tells.
-use Rattle.std.proofs.Common.{◌≡◌, ℕ, ◌<◌, ◌≤◌, true, not, ◌&&◌, leb, ltb, List, [], ◌∷◌, ◌++◌, map, refl, sym, ap, subst, ◌∙◌, arith}
-use Rattle.std.specs.Prelude.{Some, None, Ok, filter, unwrap_or}
+use Rattle.std.proofs.Common.{◌≡◌, ℕ, ◌<◌, ◌≤◌, not, ◌&&◌, List, [], ◌∷◌, ◌++◌, map, refl, sym, ap, subst, ◌∙◌}
+use Rattle.std.specs.Prelude.{Some, filter, unwrap_or}
 use Rattle.std.specs.List.{AllByRecursion}
-use Rattle.model.specs.Base.{Base, MemberRow, base_of, member_row, members, past, rows_of_changes, up_to, vec_of}
+use Rattle.model.specs.Base.{Base, base_of, member_row, members, past, rows_of_changes, up_to}
 use Rattle.model.specs.Change.{Change, EachAfter}
-use Rattle.model.specs.Command.{horizon_at, made_acks, made_edit, settled, stored_edit, stored_settled, stored_snapshot, stored_trimmed, with_made}
-use Rattle.model.specs.Edit.{Edit}
+use Rattle.model.specs.Command.{horizon_at, settled, stored_edit, stored_settled, stored_trimmed, with_made}
 use Rattle.model.specs.File.{File, snapshot}
-use Rattle.model.specs.Held.{first_unfit, held, held_behind, is_known, is_ready, row_behind, waits}
+use Rattle.model.specs.Held.{first_unfit, held, held_behind, row_behind, waits}
 use Rattle.model.specs.Ledger.{IsAmong, Joins, Sound, add}
-use Rattle.model.specs.Reading.{advanced, base_in, horizon_in, settled_in, snapshot_in, state_in, trimmed_in, unfit_in, vector_in, with_changes, with_settled}
-use Rattle.model.specs.Settle.{Report, Settling, settle}
+use Rattle.model.specs.Reading.{advanced, base_in, horizon_in, settled_in, trimmed_in, with_changes, with_settled}
+use Rattle.model.specs.Settle.{Settling, settle}
 use Rattle.model.specs.Stability.{horizon_among, horizon_of}
 use Rattle.model.specs.Stands.{Stands}
 use Rattle.model.specs.State.{after, atoms, replay}
-use Rattle.model_laws.proofs.ChangeLaws.{members_below}
+use Rattle.model_laws.proofs.ChangeLaws.{EachAfter-front, members_below}
 use Rattle.model_laws.proofs.ListLaws.{all_more}
 use Rattle.model_laws.proofs.TrimLaws.{replay-append, up_to-append-past}
 use Rattle.arrival_laws.proofs.ReadLaws.{Halves, both_readings_agree, rows_agree}
@@ -126,5 +125,5 @@ files_tell_all f h stands below waiting =
       settled_alike = settles f h stands below waiting;
       reported_alike = reports f h stands below waiting;
       trimmed = trims f h stands below waiting;
-      snapshot = ap (λ x. record x { kind = snapshot; mine = []; waiting = [] }) (trims f h stands below waiting);
+      snapshot = ap {A = File} (λ x. record x { kind = snapshot; mine = []; waiting = [] }) (trims f h stands below waiting);
     }
