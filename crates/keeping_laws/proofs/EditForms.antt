@@ -76,6 +76,20 @@ module _ {X : Type 0} (at : X → Anchor) (table : FinMap row_cmp X) (owner : Op
 
 -- ---- ids
 
+pub got : {X : Type 0} {Q : Type 0} (o : Option X) → is_some o ≡ true → ((x : X) → o ≡ Some x → Q) → Q
+got None h f = absurd cc
+got (Some x) h f = f x refl
+
+module _ (n H : ℕ) (s : State) (on : IsOn n H s) where
+  pub position_tree : (owner : OpId) → IsInsertionTree (rows_of (λ a. a) s.positions owner)
+  position_tree owner = tree_of (λ a. a) s.positions owner s on.stand.positions (λ q a e. (let p = (on.formed.positions (owner, q) a e).0 in (p.1.1, p.2.0.head)))
+
+  pub list_tree : (owner : OpId) → IsInsertionTree (rows_of (λ a. a) s.list_positions owner)
+  list_tree owner = tree_of (λ a. a) s.list_positions owner s on.stand.list_positions (λ q a e. (let p = (on.formed.list_positions (owner, q) a e).0 in (p.1.1, p.2.0.head)))
+
+  pub text_tree : (owner : OpId) → IsInsertionTree (rows_of (λ (c : Character). c.at) s.texts owner)
+  text_tree owner = tree_of (λ (c : Character). c.at) s.texts owner s on.stand.texts (λ q c e. (let p = (on.formed.texts (owner, q) c e).0 in (p.1.1, p.2.0.head)))
+
 module _ (n H : ℕ) (s : State) (some : 1 ≤ n) (on : IsOn n H s) where
   fixed_is : (id : OpId) → is_fixed id ≡ true → IsOpId n id
   fixed_is id h =
@@ -83,10 +97,6 @@ module _ (n H : ℕ) (s : State) (some : 1 ≤ n) (on : IsOn n H s) where
         | inl e ↦ (let is : id ≡ root_id = id_eq-exact id root_id e in subst (IsOpId n) (sym is) (record { time = omega arith; member = omega arith; index = omega arith; fixed = λ _. inl refl }))
         | inr e ↦ (let is : id ≡ trash_id = id_eq-exact id trash_id e in subst (IsOpId n) (sym is) (record { time = omega arith; member = omega arith; index = omega arith; fixed = λ _. inr refl }))
       ]
-
-  got : {X : Type 0} {Q : Type 0} (o : Option X) → is_some o ≡ true → ((x : X) → o ≡ Some x → Q) → Q
-  got None h f = absurd cc
-  got (Some x) h f = f x refl
 
   child_is : (id : OpId) → is_some (get s.nodes id) ≡ true → IsTimed n id
   child_is id h = got (get s.nodes id) h (λ p e. (on.formed.nodes id p e).0.0)
@@ -123,29 +133,20 @@ module _ (n H : ℕ) (s : State) (some : 1 ≤ n) (on : IsOn n H s) where
             ];
       }
 
-  position_tree : (owner : OpId) → IsInsertionTree (rows_of (λ a. a) s.positions owner)
-  position_tree owner = tree_of (λ a. a) s.positions owner s on.stand.positions (λ q a e. (let p = (on.formed.positions (owner, q) a e).0 in (p.1.1, p.2.0.head)))
-
-  list_tree : (owner : OpId) → IsInsertionTree (rows_of (λ a. a) s.list_positions owner)
-  list_tree owner = tree_of (λ a. a) s.list_positions owner s on.stand.list_positions (λ q a e. (let p = (on.formed.list_positions (owner, q) a e).0 in (p.1.1, p.2.0.head)))
-
-  text_tree : (owner : OpId) → IsInsertionTree (rows_of (λ (c : Character). c.at) s.texts owner)
-  text_tree owner = tree_of (λ (c : Character). c.at) s.texts owner s on.stand.texts (λ q c e. (let p = (on.formed.texts (owner, q) c e).0 in (p.1.1, p.2.0.head)))
-
   child_anchor : (parent : OpId) (among : List OpId) (k : ℕ) → AllByRecursion (λ child. Hangs s.positions parent (position_of s child)) among → IsAnchor n (child_place s parent among k)
   child_anchor parent among k h =
-      placed_is (λ a. a) s.positions parent (origin_at (map (position_of s) among) k) (position_tree parent) (λ q e. got (get s.positions (parent, q)) e (λ a g. (on.formed.positions (parent, q) a g).0.1.0))
+      placed_is (λ a. a) s.positions parent (origin_at (map (position_of s) among) k) (position_tree n H s on parent) (λ q e. got (get s.positions (parent, q)) e (λ a g. (on.formed.positions (parent, q) a g).0.1.0))
       (origin_all (Hangs s.positions parent) (map (position_of s) among) k refl (all_map (Hangs s.positions parent) (position_of s) among h))
 
   element_anchor : (node : OpId) (among : List OpId) (k : ℕ) → AllByRecursion (IsElement s node) among → IsAnchor n (element_place s node among k)
   element_anchor node among k h =
-      placed_is (λ a. a) s.list_positions node (origin_at (map (edits.element_position s node) among) k) (list_tree node) (λ q e. got (get s.list_positions (node, q)) e (λ a g. (on.formed.list_positions (node, q) a g).0.1.0))
+      placed_is (λ a. a) s.list_positions node (origin_at (map (edits.element_position s node) among) k) (list_tree n H s on node) (λ q e. got (get s.list_positions (node, q)) e (λ a g. (on.formed.list_positions (node, q) a g).0.1.0))
       (origin_all (Hangs s.list_positions node) (map (edits.element_position s node) among) k refl
       (all_map (Hangs s.list_positions node) (edits.element_position s node) among (all_more (IsElement s node) (λ q. Hangs s.list_positions node (edits.element_position s node q)) (λ q p. p.1) among h)))
 
   text_anchor : (node : OpId) (k : ℕ) → IsAnchor n (edits.character_place s node k)
   text_anchor node k =
-      placed_is (λ (c : Character). c.at) s.texts node (origin_at (live_characters s node) k) (text_tree node) (λ q e. got (get s.texts (node, q)) e (λ c g. (on.formed.texts (node, q) c g).0.1.0))
+      placed_is (λ (c : Character). c.at) s.texts node (origin_at (live_characters s node) k) (text_tree n H s on node) (λ q e. got (get s.texts (node, q)) e (λ c g. (on.formed.texts (node, q) c g).0.1.0))
       (origin_all (Hangs s.texts node) (live_characters s node) k refl (all_more (λ q. is_some (get s.texts (node, q)) ≡ true) (Hangs s.texts node) (λ q e. right_true (id_eq q root_id) (is_some (get s.texts (node, q))) e) (live_characters s node) (character_there s node)))
 
   -- ---- elements

@@ -290,6 +290,9 @@ module _ (bytes : List ℕ) (f : File) (h : List Change) (stored : IsStored byte
       let grown = edits_of_file f h e cs stands below is in
       with_changes_is cs 1 (omega arith) (edits_are n (max T (latest h)) f.mine f.mine h cs e (are_held n f.mine below) fit some on form is) (grown_stands f h cs stands grown)
 
+pub state_is_on : (bytes : List ℕ) (f : File) (h : List Change) → IsStored bytes f → Stands f h → (H : ℕ) × IsOn f.members H (replay h)
+state_is_on bytes f h stored stands = (max stands.horizon (latest h), on bytes f h stored stands)
+
 -- ---- the laws
 
 pub stored_keep_rules : StoredKeepRules

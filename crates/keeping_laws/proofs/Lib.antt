@@ -9,3 +9,4 @@ pub mod MadeForms
 pub mod KeptFiles
 pub mod NewFiles
 pub mod WrittenLaws
+pub mod ShowLaws

@@ -1,3 +1,4 @@
 pub mod Forms
 pub mod Keeping
 pub mod Writing
+pub mod Showing

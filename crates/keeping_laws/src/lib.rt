@@ -2,6 +2,7 @@
 #![tactic(auto)]
 
 ghost use Rattle.keeping_laws.specs.Keeping.{FoundKeepsRules, StoredKeepRules};
+ghost use Rattle.keeping_laws.specs.Showing.{FilesShowEdits, StoredAreWhole};
 ghost use Rattle.keeping_laws.specs.Writing.{WrittenAreStored};
 
 /// Whatever a command stores of a stored file that stands for a ledger keeps every rule of files.
@@ -17,4 +18,14 @@ pub fn found_keeps_rules()
 /// Where the spelling of what a command stores is written, and isn't too long, what it stores is a stored file.
 pub fn written_files_are_stored()
     ensures { WrittenAreStored }
+{}
+
+/// The ledger of a stored file has a whole state, whatever was trimmed.
+pub fn stored_files_are_whole()
+    ensures { StoredAreWhole }
+{}
+
+/// An edit of a stored file that stands for a ledger shows its effect.
+pub fn files_show_edits()
+    ensures { FilesShowEdits }
 {}
