@@ -1,14 +1,14 @@
 -- From what is read of a change to the rules that it keeps, and to the change.
-use Rattle.std.proofs.Common.{◌≡◌, ◌↔◌, ℕ, ◌<◌, ◌≤◌, ◌^◌, refl, sym, subst, ◌∙◌, inl, inr}
+use Rattle.std.proofs.Common.{◌≡◌, ◌↔◌, ℕ, ◌<◌, ◌≤◌, ◌^◌, List, Bor, refl, sym, ap, subst, ◌∙◌, inl, inr}
 use Rattle.std.specs.Prelude.{Ok, Err, Result}
 use Rattle.cbor_det.specs.Item.{Item}
-use Rattle.model.specs.Change.{parts_of}
+use Rattle.model.specs.Change.{ChangeParts, parts_of}
 use Rattle.model.specs.Rules as model
 use Rattle.model.specs.Rules.{BreaksFirst, KeepsAll, KeepsChange, SaysChange, IsBody, HasOperations, change_rules}
 use Rattle.file_laws.proofs.SameParts.{parts_same}
 use Rattle.file_laws.proofs.RuleLaws.{kept_are_changes}
 use Rattle.op_grammar.specs.Rules.{rule_of}
-use Rattle.op_grammar.specs.Changes.{head_rules, CheckAnswer}
+use Rattle.op_grammar.specs.Changes.{head_rules, ChangeAnswer}
 use Rattle.op_grammar.specs.Parts.{AreOperations, SaidAnswer, said_parts}
 use Rattle.op_grammar.specs.declared.head.Head.{Head}
 use Rattle.op_grammar.specs.declared.head.Said.{Said}
@@ -26,11 +26,11 @@ first_of_all n x rule (inr (a, inr (b, inr (c, inl d)))) = inr (a, inr (b, inr (
 first_of_all n x rule (inr (a, inr (b, inr (c, inr (d, inl e))))) = inr (a, inr (b, inr (c, inr (d, inl e))))
 first_of_all n x rule (inr (a, inr (b, inr (c, inr (d, inr (e, no_more)))))) = absurd no_more
 
-pub head_breaks : (n : ℕ) (x : Item) (rule : Rule) (found : Result Head Rule) → found ≡ Err rule → SaidAnswer n x (Err rule) → CheckAnswer n x found
-head_breaks n x rule found e h = subst (CheckAnswer n x) (sym e) (first_of_all n x (rule_of rule) h)
+pub head_breaks : (n : ℕ) (x : Item) (rule : Rule) (found : Result (Head × Bor (List ℕ)) Rule) → found ≡ Err rule → SaidAnswer n x (Err rule) → ChangeAnswer n x found
+head_breaks n x rule found e h = subst (ChangeAnswer n x) (sym e) (first_of_all n x (rule_of rule) h)
 
 module _ (n : ℕ) (x : Item) (s : Said) (said : SaidAnswer n x (Ok s)) where
-  pub body_breaks : (IsBody (said_parts s) → ⊥) → CheckAnswer n x (Err r.G6)
+  pub body_breaks : (IsBody (said_parts s) → ⊥) → ChangeAnswer n x (Err r.G6)
   body_breaks out =
       let h = said.1 in
       inr (h.0, inr (h.1.0, inr (h.1.1.0, inr (h.1.1.1.0, inr (h.1.1.1.1.0, inl (refl, λ k. denies IsBody (said_parts s) out (subst (SaysChange IsBody) said.0 k)))))))
@@ -42,7 +42,7 @@ module _ (n : ℕ) (x : Item) (s : Said) (said : SaidAnswer n x (Ok s)) where
     exactly : Are ↔ HasOperations n (said_parts s)
     exactly = has_operations_are n (said_parts s) is_body.items lt is_body.most is_body.spelled
 
-    pub operations_break : (Are → ⊥) → CheckAnswer n x (Err r.G7)
+    pub operations_break : (Are → ⊥) → ChangeAnswer n x (Err r.G7)
     operations_break out =
         let h = said.1 in
         inr (
@@ -68,10 +68,15 @@ module _ (n : ℕ) (x : Item) (s : Said) (said : SaidAnswer n x (Ok s)) where
           ),
         )
 
-    pub is_change : (h : Head) → Are → h ≡ record { member = s.member; number = s.number; time = s.time; causes = s.causes; count = s.count; width = s.width } → CheckAnswer n x (Ok h)
-    is_change h are e =
+    pub is_change : (h : Head) (b : Bor (List ℕ)) → Are → h ≡ record { member = s.member; number = s.number; time = s.time; causes = s.causes; count = s.count; width = s.width } → b.now ≡ s.body.now → ChangeAnswer n x (Ok (h, b))
+    is_change h b are e f =
         let k = said.1 in
         let all : KeepsAll (KeepsChange n) change_rules x = (k.0, (k.1.0, (k.1.1.0, (k.1.1.1.0, (k.1.1.1.1.0, ((said_parts s, said.0, is_body), ((said_parts s, said.0, exactly.0 are), tt))))))) in
         let c = kept_are_changes n x lt all in
-        let same : said_parts s ≡ parts_of c.0 = parts_same (said_parts s) (parts_of c.0) (sym said.0 ∙ c.1) in
-        (c.0, c.1, c.2, e ∙ (λ i. record { member = (same i).member; number = (same i).number; time = (same i).time; causes = (same i).causes; count = (same i).count; width = (same i).width }))
+        let same : said_parts s ≡ parts_of c.0 = parts_same (said_parts s) (parts_of c.0) (sym said.0 ∙ c.1) in (
+          c.0,
+          c.1,
+          c.2,
+          e ∙ (λ i. record { member = (same i).member; number = (same i).number; time = (same i).time; causes = (same i).causes; count = (same i).count; width = (same i).width }),
+          f ∙ ap (λ (q : ChangeParts). q.body) same,
+        )

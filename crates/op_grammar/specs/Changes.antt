@@ -3,7 +3,7 @@ use Rattle.std.specs.Prelude.{◌≡◌, ◌⊎◌, ℕ, ◌<◌, ◌≤◌, ◌
 use Rattle.std.specs.Borrow.{Bor}
 use Rattle.cbor_det.specs.Item.{Item}
 use Rattle.model.specs.Operation.{Operation}
-use Rattle.model.specs.Change.{Change, IsChange, ChangeParts, change_item, parts_item, width}
+use Rattle.model.specs.Change.{Change, IsChange, ChangeParts, change_item, parts_item, width, body}
 use Rattle.model.specs.Rules as model
 use Rattle.model.specs.Rules.{BreaksFirst, KeepsAll, KeepsChange, change_rules}
 use Rattle.op_grammar.specs.Rules.{rule_of}
@@ -29,6 +29,11 @@ head_rules = take 5 change_rules
 
 abbrev pub body_rules : List model.Rule
 body_rules = drop 5 change_rules
+
+-- What a read of a change answers: its head and its body, where the item is that of a change of n members, or the first rule that the item breaks.
+abbrev pub ChangeAnswer : ℕ → Item → Result (Head × Bor (List ℕ)) Rule → Type 0
+ChangeAnswer n x (Ok p) = (c : Change) × (x ≡ change_item c) × IsChange n c × (p.0 ≡ head_of c) × (p.1.now ≡ body c.operations)
+ChangeAnswer n x (Err r) = BreaksFirst (KeepsChange n) change_rules x (rule_of r)
 
 -- What a check of a change answers: its head, where the item is that of a change of n members, or the first rule that the item breaks.
 abbrev pub CheckAnswer : ℕ → Item → Result Head Rule → Type 0

@@ -4,7 +4,7 @@ ghost use Rattle.std.specs.Prelude.{◌≡◌, ◌↔◌, ◌<◌, ◌≤◌, �
 ghost use Rattle.cbor_det.specs.Item.{Item, IsSpelled, spell, Spells};
 ghost use Rattle.model.specs.Change.{ChangeParts};
 ghost use Rattle.model.specs.Rules.{IsBody};
-ghost use Rattle.op_grammar.specs.Changes.{CheckAnswer};
+ghost use Rattle.op_grammar.specs.Changes.{ChangeAnswer, CheckAnswer};
 ghost use Rattle.op_grammar.specs.Parts.{AreOperations};
 
 use crate::head::{Head, head_of, read_said};
@@ -28,6 +28,18 @@ pub fn check_change(alloc: Global, span: &[u8], n: u8) -> Result<Head, Rule>
     requires few { n ≤ 32 }
     ensures { (x : Item) → IsSpelled x → span.now ≡ spell x → CheckAnswer n x result }
 {
+    match read_change(alloc, span, n) {
+        Ok((head, _)) => Ok(head),
+        Err(rule) => Err(rule),
+    }
+}
+
+/// The head and the body of a change, by the rules of `check_change`.
+pub fn read_change<'a>(alloc: Global, span: &'a [u8], n: u8) -> Result<(Head, &'a [u8]), Rule>
+    requires some { 0 < n }
+    requires few { n ≤ 32 }
+    ensures { (x : Item) → IsSpelled x → span.now ≡ spell x → ChangeAnswer n x result }
+{
     let said = read_said(alloc, span, n)?;
     if !is_body(said.body, said.count) {
         return Err(Rule::G6);
@@ -35,7 +47,8 @@ pub fn check_change(alloc: Global, span: &[u8], n: u8) -> Result<Head, Rule>
     if !has_operations(said.body, said.count, said.width, n) {
         return Err(Rule::G7);
     }
-    Ok(head_of(said))
+    let body = said.body;
+    Ok((head_of(said), body))
 }
 
 /// Whether the body is short enough, and has so many items.

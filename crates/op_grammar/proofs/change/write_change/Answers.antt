@@ -19,8 +19,8 @@ returns-clause-kept c =
     let few : length c.deref.result.now < 2 ^ 64 = omega (arith, c.in_ok-body.body.ok.0, c.in_ok-body.body.ok.1, c.in_ok-body.body.small, ap length c.deref.ensures.value) in
     let plain = rw c.as_slice.ensures at c.in_ok-body.ensures.plain in
     (written_whole (length c.args.head.now.causes) c.len.result c.args.head.now (operations_of c.args.ops.now) c.deref.result.now c.in_ok-change.change.items c.deref-2.result.now c.len.ensures.value
-     (c.deref.ensures.value ∙ c.in_ok-body.ensures.spelled ∙ ap (λ os. body (operations_of os)) c.as_slice.ensures) c.in_ok-change.ensures.spelled c.in_ok-change.ensures.plain c.deref-2.ensures.value short
-     c.in_ok-check_change.field-0 (omega (arith, c.len.ensures.value, c.len.ensures.few)) plain few c.in_ok-check_change.ensures).is
+    (c.deref.ensures.value ∙ c.in_ok-body.ensures.spelled ∙ ap (λ os. body (operations_of os)) c.as_slice.ensures) c.in_ok-change.ensures.spelled c.in_ok-change.ensures.plain c.deref-2.ensures.value short
+    c.in_ok-check_change.field-0 (omega (arith, c.len.ensures.value, c.len.ensures.few)) plain few c.in_ok-check_change.ensures).is
 
 pub returns-clause-head : goal.returns-clause-head
 returns-clause-head c =
@@ -28,8 +28,8 @@ returns-clause-head c =
     let few : length c.deref.result.now < 2 ^ 64 = omega (arith, c.in_ok-body.body.ok.0, c.in_ok-body.body.ok.1, c.in_ok-body.body.small, ap length c.deref.ensures.value) in
     let plain = rw c.as_slice.ensures at c.in_ok-body.ensures.plain in
     (written_whole (length c.args.head.now.causes) c.len.result c.args.head.now (operations_of c.args.ops.now) c.deref.result.now c.in_ok-change.change.items c.deref-2.result.now c.len.ensures.value
-     (c.deref.ensures.value ∙ c.in_ok-body.ensures.spelled ∙ ap (λ os. body (operations_of os)) c.as_slice.ensures) c.in_ok-change.ensures.spelled c.in_ok-change.ensures.plain c.deref-2.ensures.value short
-     c.in_ok-check_change.field-0 (omega (arith, c.len.ensures.value, c.len.ensures.few)) plain few c.in_ok-check_change.ensures).head
+    (c.deref.ensures.value ∙ c.in_ok-body.ensures.spelled ∙ ap (λ os. body (operations_of os)) c.as_slice.ensures) c.in_ok-change.ensures.spelled c.in_ok-change.ensures.plain c.deref-2.ensures.value short
+    c.in_ok-check_change.field-0 (omega (arith, c.len.ensures.value, c.len.ensures.few)) plain few c.in_ok-check_change.ensures).head
 
 pub returns-clause-ok : goal.returns-clause-ok
 returns-clause-ok c =
