@@ -1,5 +1,5 @@
 -- Tables of tables: what a look-up finds, what a write makes, and the rows in order.
-use Rattle.std.specs.Prelude.{◌≡◌, ℕ, Bool, true, false, cond, ◌&&◌, Option, Some, None, List, [], ◌∷◌, ◌++◌, map, filter, refl, ◌⊎◌, T, ◌+◌, ◌<◌, length, take, drop}
+use Rattle.std.specs.Prelude.{◌≡◌, ℕ, Bool, true, false, cond, ◌&&◌, Option, Some, None, List, [], ◌∷◌, ◌++◌, map, refl, T, ◌+◌, ◌<◌, length, take, drop}
 use Rattle.std.proofs.Common.{sym, ◌∙◌, ap, subst, inl, inr}
 use Rattle.std.specs.Map.{lookup, keys_of}
 use Rattle.std.specs.List.{AllByRecursion}
@@ -10,13 +10,13 @@ use Rattle.std.specs.Cmp.Lexicographic.{slice_cmp, nat_list_cmp_total}
 use Rattle.std.proofs.Common.{get_or}
 use Rattle.std.proofs.lemmas.List.{append-nil, map-append, take_more, drop_more, take-append-drop}
 use Rattle.std.proofs.lemmas.List.Elements.{filter-append}
-use Rattle.std.specs.FinMap.{FinMap, get, insert, entries, empty, from_entries, find, get-from_entries, get-entries, get-insert, get-empty, same_map, from_entries_push, entries_sorted}
+use Rattle.std.specs.FinMap.{get, insert, entries, from_entries, find, get-from_entries, get-entries, get-insert, same_map, from_entries_push, entries_sorted}
 use Rattle.std.specs.FinMap.Entries.{is_sorted, below_all}
 use Rattle.std.specs.declared.cmp.Ordering.{Ordering}
-use Rattle.std.specs.declared.cmp.Ordering.TheVariants.{Less, Equal, Greater}
+use Rattle.std.specs.declared.cmp.Ordering.TheVariants.{Less}
 use Rattle.op_ids.specs.declared.OpId.{OpId}
 use Rattle.op_ids.specs.Order.{id_cmp, id_eq}
-use Rattle.op_ids.proofs.OrderLaws.{eq_by_cmp-id, id_cmp_total, id_cmp_exact, id_eq-exact, id_eq-itself, same_or_apart, id_equiv, less_from_is_lt}
+use Rattle.op_ids.proofs.OrderLaws.{eq_by_cmp-id, id_cmp_total, id_eq-exact, same_or_apart, id_equiv, less_from_is_lt}
 use Rattle.model.specs.Value.{Value}
 use Rattle.model.specs.Operation.{put_key}
 use Rattle.model.specs.State.{Register, register_cmp, Written}
@@ -26,7 +26,7 @@ use Rattle.model_laws.proofs.KeptTables.{entries_are, none_among, below_next}
 use Rattle.lww_map.specs.declared.registers.RegisterRow.{RegisterRow}
 use Rattle.op_grammar.specs.declared.value.OwnValue.TheVariants as own
 use Rattle.op_grammar.specs.Values.{own_value_of}
-use Rattle.lww_map.specs.Keys.{row_seen, rows_seen, Keys, Table, tagged, table_list, table_of, node_rows, key_written}
+use Rattle.lww_map.specs.Keys.{row_seen, rows_seen, Keys, tagged, table_list, table_of, node_rows, key_written}
 
 abbrev pub tied : OpId → OpId → Bool
 tied = eq_by_cmp id_cmp

@@ -1,4 +1,4 @@
-use Rattle.std.proofs.Common.{◌≡◌, ◌∙◌, List, ap, sym, subst, map}
+use Rattle.std.proofs.Common.{◌∙◌, List, ap, sym, subst, map}
 use Rattle.std.specs.List.Sorted.{IsStrictlySortedBy}
 use Rattle.std.specs.FinMap.{entries, entries_sorted}
 use Rattle.model.specs.State.{Register, register_cmp, Written}

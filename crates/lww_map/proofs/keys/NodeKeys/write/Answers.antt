@@ -1,10 +1,10 @@
-use Rattle.std.proofs.Common.{◌≡◌, ◌∙◌, ap, sym, refl, subst, true, false, cond, Some, None}
+use Rattle.std.proofs.Common.{◌≡◌, ◌∙◌, ap, sym, refl, true, false, Some, None}
 use Rattle.std.specs.String.{string_bytes}
 use Rattle.std.specs.FinMap as fin
 use Rattle.op_ids.specs.Order.{id_lt}
 use Rattle.model.specs.State.{Written}
 use Rattle.model_laws.specs.Arrival.{writer_is_before}
-use Rattle.lww_map.specs.Keys.{Keys, key_written, seen, keys_of}
+use Rattle.lww_map.specs.Keys.{Keys, seen, keys_of}
 use Rattle.op_grammar.specs.Values.{value_of, own_value_of}
 use Rattle.lww_map.proofs.KeyEntries.{get-keys_of, keys_of-insert_entry, kept_seen}
 use Rattle.lww_map.proofs.keys.NodeKeys.write.Goals as goal

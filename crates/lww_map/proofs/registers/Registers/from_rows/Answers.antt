@@ -1,9 +1,8 @@
-use Rattle.std.proofs.Common.{◌≡◌, ◌∙◌, ap, sym, take, get_or, ℕ, List}
+use Rattle.std.proofs.Common.{◌≡◌, ◌∙◌, ap, take, get_or, ℕ, List}
 use Rattle.std.proofs.lemmas.List.{get_or_default}
 use Rattle.std.specs.FinMap as fin
 use Rattle.model.specs.Value.{Value}
 use Rattle.model.specs.Operation.{put_key}
-use Rattle.model.specs.State.{register_cmp}
 use Rattle.model_laws.specs.Arrival.{late_register}
 use Rattle.lww_map.specs.declared.registers.RegisterRow.{RegisterRow}
 use Rattle.op_grammar.specs.Values.{value_of, own_value_of}
