@@ -1,0 +1,4 @@
+pub mod Deciding
+pub mod Spelled
+pub mod Blocks
+pub mod Handing
