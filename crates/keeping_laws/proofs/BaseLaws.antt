@@ -32,9 +32,10 @@ use Rattle.arrival_laws.proofs.DocumentLaws.{made_of}
 use Rattle.arrival_laws.proofs.ReadLaws.{Halves}
 use Rattle.arrival_laws.proofs.SoundLaws.{order_kept}
 use Rattle.arrival_laws.proofs.TimeLaws.{times_by, up_to_later}
+use Rattle.ledger_laws.proofs.FileLaws.{timed}
 use Rattle.ledger_laws.proofs.RowLaws.{got_each}
 use Rattle.keeping_laws.proofs.FormLaws.{AtomIs, EachRow, Formed, formed_along}
-use Rattle.keeping_laws.proofs.MemberRows.{each_row, row_formed, rows_all_agree, times_some}
+use Rattle.keeping_laws.proofs.MemberRows.{each_row, row_formed, rows_all_agree}
 use Rattle.keeping_laws.proofs.PlaceLaws.{stand_along}
 
 -- ---- tables and their entries
@@ -223,7 +224,7 @@ base_is n L now sound by most on rows =
       };
       rise = tables_rise (replay now);
       stand = on.stand;
-      lead_up = parents_lead_up now sound.in_order (times_some n now sound);
+      lead_up = parents_lead_up now sound.in_order (timed n now sound);
       by_horizon = tables_by n L (replay now) on.formed;
       rows_agree = rows_all_agree n now L sound by (tables_of (replay now));
     }

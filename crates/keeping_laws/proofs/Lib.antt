@@ -10,3 +10,4 @@ pub mod KeptFiles
 pub mod NewFiles
 pub mod WrittenLaws
 pub mod ShowLaws
+pub mod OnceLaws

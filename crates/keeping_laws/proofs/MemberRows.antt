@@ -11,7 +11,6 @@ use Rattle.std.proofs.lemmas.Option.{same_Some, slice_get_within}
 use Rattle.model.specs.Base.{Base, MemberRow, count_of, known_by, known_of, last_change, last_of, member_row, rows_of_changes}
 use Rattle.model.specs.BaseItem.{BaseParts, IsMemberRow, RowAgrees, RowsAgree, Tables}
 use Rattle.model.specs.Change.{Change, IsChange}
-use Rattle.model.specs.Held.{held}
 use Rattle.model.specs.Ledger.{Sound, IsAmong, Joins}
 use Rattle.model.specs.State.{replay}
 use Rattle.model_laws.proofs.ChangeLaws.{all_from_EachAfter}
@@ -19,7 +18,8 @@ use Rattle.model_laws.proofs.ListLaws.{all_both, all_more, last_passing, option_
 use Rattle.arrival_laws.proofs.InLaws.{In, all_in}
 use Rattle.arrival_laws.proofs.ReadLaws.{Halves, last_number, row_at, rows_agree}
 use Rattle.arrival_laws.proofs.SoundLaws.{Numbered, each_more, is_none, joins_numbered, ready_from}
-use Rattle.arrival_laws.proofs.StableLaws.{fitting, of_member}
+use Rattle.arrival_laws.proofs.StableLaws.{of_member}
+use Rattle.ledger_laws.proofs.FileLaws.{timed}
 use Rattle.ledger_laws.proofs.KnownLaws.{knows_most}
 use Rattle.ledger_laws.proofs.RowLaws.{if_there}
 
@@ -65,15 +65,12 @@ record Own (n : ℕ) (x : Change) : Type 0 where
   less : slice_index x.causes x.member < x.number
   some : 1 ≤ x.time
 
-pub times_some : (n : ℕ) (h : List Change) → Sound n h → AllByRecursion (λ x. 1 ≤ x.time) h
-times_some n h sound = all_from_EachAfter (Joins n) (λ all x. 1 ≤ x.time) (λ front x more j. let l = (fitting n (held n front) x j.fitting).later in omega arith) [] h sound.each
-
 own_each : (n : ℕ) (h : List Change) → Sound n h → AllByRecursion (Own n) h
 own_each n h sound =
     let less = all_from_EachAfter (Joins n) (λ all x. x.member < n → slice_index x.causes x.member < x.number)
     (λ front x more j lt. let r = ready_from n front x j.ready in let c = of_member (λ k. slice_index x.causes k ≤ count_of front k) n x.member r.causes lt in let e = r.is_next in omega arith) [] h sound.each in
     all_more (λ x. IsAmong n x × ((x.member < n → slice_index x.causes x.member < x.number) × (1 ≤ x.time))) (Own n) (λ x p. record { member = p.0.member; causes = p.0.causes; less = p.1.0 p.0.member; some = p.1.1 }) h
-    (all_both (IsAmong n) (λ x. (x.member < n → slice_index x.causes x.member < x.number) × (1 ≤ x.time)) h sound.among (all_both (λ x. x.member < n → slice_index x.causes x.member < x.number) (λ x. 1 ≤ x.time) h less (times_some n h sound)))
+    (all_both (IsAmong n) (λ x. (x.member < n → slice_index x.causes x.member < x.number) × (1 ≤ x.time)) h sound.among (all_both (λ x. x.member < n → slice_index x.causes x.member < x.number) (λ x. 1 ≤ x.time) h less (timed n h sound)))
 
 -- a member's last change
 record Last (n : ℕ) (h : List Change) (m : ℕ) (x : Change) : Type 0 where

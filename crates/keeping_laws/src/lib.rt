@@ -2,7 +2,7 @@
 #![tactic(auto)]
 
 ghost use Rattle.keeping_laws.specs.Keeping.{FoundKeepsRules, StoredKeepRules};
-ghost use Rattle.keeping_laws.specs.Showing.{FilesShowEdits, StoredAreWhole};
+ghost use Rattle.keeping_laws.specs.Showing.{FilesShowEdits, NodesShownOnce, StoredAreWhole};
 ghost use Rattle.keeping_laws.specs.Writing.{WrittenAreStored};
 
 /// Whatever a command stores of a stored file that stands for a ledger keeps every rule of files.
@@ -28,4 +28,9 @@ pub fn stored_files_are_whole()
 /// An edit of a stored file that stands for a ledger shows its effect.
 pub fn files_show_edits()
     ensures { FilesShowEdits }
+{}
+
+/// The ledger of a stored file shows each node once.
+pub fn nodes_are_shown_once()
+    ensures { NodesShownOnce }
 {}
