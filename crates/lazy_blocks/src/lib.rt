@@ -9,3 +9,6 @@ mod shelf;
 pub use block::Block;
 pub use ops::Ops;
 pub use shelf::Shelf;
+
+#[cfg(test)]
+mod tests;
