@@ -13,7 +13,8 @@ use Rattle.outline_cmd.specs.Input.{IsFrontOf}
 use Rattle.outside.specs.Faults.{Rose}
 use Rattle.std.specs.Option.{option_map}
 use Rattle.outline_cmd.specs.Meaning.{Loaded, missing, failed, whole, read, input_bytes}
-use Rattle.outline_cmd.specs.Run.{Seen, Brings, BringsOf, IsLoad, IsLoadOf}
+use Rattle.outline_cmd.specs.Run.{Brings, BringsOf, IsLoad, IsLoadOf}
+use Rattle.outside.specs.Seen.{Seen}
 use Rattle.outline_cmd.proofs.MeaningLaws.{read_is}
 
 pub front_is_whole : (held : Option (List ℕ)) (front into : List ℕ) (at : ℕ) → at ≡ length front → 0 < length into → IsFrontOf held front → LoadsAs held at into (loads.Got 0) → held ≡ Some front

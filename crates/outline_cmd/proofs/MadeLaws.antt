@@ -21,7 +21,8 @@ use Rattle.model.specs.Reading.{base_in, held_in, state_in, unfit_in, with_chang
 use Rattle.model_laws.proofs.ChangeLaws.{count_of_all, members_below, members_rise}
 use Rattle.ledger_laws.proofs.FileLaws.{files_read_whole}
 use Rattle.ledger_laws.proofs.MadeLaws as made
-use Rattle.outline_cmd.specs.Scope.{IsSmall, with_change}
+use Rattle.outline_cmd.specs.Scope.{IsSmall}
+use Rattle.outline_cmd.specs.Puts.{with_change}
 use Rattle.outline_cmd.specs.declared.small_file.Last.{Last}
 use Rattle.outline_cmd.specs.SmallFile.{may_follow, after_change, no_change, last_in, file_of}
 use Rattle.outline_cmd.proofs.PartLaws.{IsWithin}

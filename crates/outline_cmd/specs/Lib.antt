@@ -1,8 +1,15 @@
+pub mod FaultText
 pub mod Status
+pub mod Outcome
+pub mod Sample
 pub mod Scope
 pub mod Meaning
 pub mod Ending
 pub mod Run
+pub mod Ledgers
+pub mod Script
+pub mod Puts
+pub mod Tasks
 pub mod Stages
 pub mod Input
 pub mod Front

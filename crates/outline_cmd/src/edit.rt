@@ -4,14 +4,20 @@ ghost use Rattle.std.specs.Prelude.{◌≡◌, ℕ, ◌≤◌, ◌<◌, List, []
 ghost use Rattle.cbor_det.specs.Head.{IsBytes};
 ghost use Rattle.op_ids.specs.Order.{root_id};
 ghost use Rattle.model.specs.Operation.{Operation, put_key};
-ghost use Rattle.model.specs.Edit.{value_len};
+ghost use Rattle.model.specs.Value.{Value as TheValue};
+ghost use Rattle.model.specs.Edit.{Edit, value_len};
+ghost use Rattle.outline_words.specs.Commands.{SaysValue};
+ghost use Rattle.outline_words.specs.Forms.{IsWordValue};
+ghost use Rattle.outline_cmd.specs.Tasks.{SaysEdit, edit_made};
 ghost use Rattle.model.specs.File.{File, file_limit, spell_file};
-ghost use Rattle.outline_cmd.specs.Scope.{IsSmall, with_change};
+ghost use Rattle.outline_cmd.specs.Scope.{IsSmall};
+ghost use Rattle.outline_cmd.specs.Puts.{with_change};
 ghost use Rattle.op_grammar.specs.Values.{value_of};
 ghost use Rattle.model.specs.Text.{hex};
 ghost use Rattle.op_grammar.specs.Changes.{change_of};
 ghost use Rattle.outline_cmd.specs.Edits.{HeadsOne};
-ghost use Rattle.outline_cmd.specs.Meaning.{known, editor_among, checked_put, clocked_in, put_in, put_from};
+ghost use Rattle.outline_cmd.specs.Meaning.{exactly};
+ghost use Rattle.outline_cmd.specs.Puts.{editor_among, checked_put, clocked_in, put_in, put_from};
 ghost use Rattle.outline_cmd.specs.Represents.{Represents};
 ghost use Rattle.outline_cmd.specs.Stages.{answer_of, Follows};
 ghost use Rattle.outline_cmd.specs.declared.status.Status.TheVariants.{NoMemory};
@@ -23,17 +29,26 @@ use crate::outline_show::made_text;
 use crate::put_change::append_put;
 use crate::replica::MAX_KEPT;
 use crate::small_file::SmallFile;
-use crate::status::{EditFault, MemberFault, Status};
+use crate::faults::{EditFault, MemberFault};
+use crate::status::Status;
 use cbor_det::put_uint;
 use op_grammar::{Head, Value};
 use op_ids::MAX_TIME;
+use outline_words::WordValue;
 use std::alloc::{AllocError, Global};
 use version_vector::Vector;
+
+/// An edit of the root, as words give it.
+#[derive(Clone, Copy)]
+pub(crate) enum EditWords<'w> {
+    Put { key: &'w str, value: WordValue<'w> },
+    Unset { key: &'w str },
+}
 
 /// The member who edits a file: the least that it holds, if the changes that it keeps are of this member.
 fn editor(file: &SmallFile<'_>) -> Result<u8, Status>
     ensures told { (f : File) → IsSmall f → Represents file.now f
-        → Follows (λ m. m) result (known (editor_among f.mine f.kept)) }
+        → Follows (λ m. m) result (exactly (editor_among f.mine f.kept)) }
     ensures within { IfOk result (λ m. m < file.now.members) }
 {
     let Some(member) = file.least else {
@@ -58,7 +73,7 @@ fn value_len(value: Value<'_>) -> usize
 
 /// The first fault of a put: its key has 1 to 256 bytes, and its text or bytes at most 65,536.
 fn check_put(key: &str, value: Value<'_>) -> Result<(), Status>
-    ensures { Follows (λ u. u) result (known (checked_put key.now (value_of value.entry))) }
+    ensures { Follows (λ u. u) result (exactly (checked_put key.now (value_of value.entry))) }
 {
     if key.is_empty() {
         return Err(Status::Edit {
@@ -86,7 +101,7 @@ fn next_head(alloc: Global, file: &SmallFile<'_>, member: u8) -> Result<Head, St
     requires { member < file.now.members }
     ensures told { (f : File) (os : List Operation) → IsSmall f → Represents file.now f
         → editor_among f.mine f.kept ≡ Ok member
-        → Follows (λ head. change_of head os) result (known (clocked_in f member os)) }
+        → Follows (λ head. change_of head os) result (exactly (clocked_in f member os)) }
     ensures keeps { IfOk result (λ head. HeadsOne head file.now.members member) }
 {
     let last = file.last;
@@ -182,4 +197,41 @@ pub(crate) fn decoded(alloc: Global, digits: &str) -> Result<Vec<u8>, Status>
 {
     // What a word says are digits, so that memory alone can be wanting.
     hex::decode(alloc, digits).map_err(|_| Status::NoMemory)
+}
+
+/// The answer of a put on the root of the file that the bytes spell, of the value that a word gives.
+fn put_word<'w>(
+    alloc: Global,
+    bytes: &[u8],
+    name: &'w str,
+    key: &str,
+    value: WordValue<'_>,
+) -> Result<Answer<'w>, Status>
+    requires { length bytes.now ≤ file_limit }
+    ensures { (said : TheValue) → SaysValue value.entry said → IsWordValue said
+        → Follows answer_of result (put_from name.now bytes.now key.now said) }
+{
+    match value {
+        WordValue::Plain(value) => put_on_root(alloc, bytes, name, key, value),
+        WordValue::Digits(digits) => {
+            let value = decoded(alloc, digits)?;
+            put_on_root(alloc, bytes, name, key, Value::Bytes(&value))
+        }
+    }
+}
+
+/// The answer of an edit of the root of the file that the bytes spell.
+pub(crate) fn edit_file<'w>(
+    alloc: Global,
+    bytes: &[u8],
+    name: &'w str,
+    edit: EditWords<'_>,
+) -> Result<Answer<'w>, Status>
+    requires { length bytes.now ≤ file_limit }
+    ensures { (e : Edit) → SaysEdit edit.entry e → Follows answer_of result (edit_made name.now e bytes.now) }
+{
+    match edit {
+        EditWords::Put { key, value } => put_word(alloc, bytes, name, key, value),
+        EditWords::Unset { key } => put_on_root(alloc, bytes, name, key, Value::Null),
+    }
 }

@@ -17,7 +17,8 @@ ghost use Rattle.model.specs.Reading.{held_in, state_in, unfit_in, with_changes}
 ghost use Rattle.model.specs.Stands.{Stands};
 ghost use Rattle.model.specs.State.{replay};
 ghost use Rattle.model.specs.View.{view, entries_of};
-ghost use Rattle.outline_cmd.specs.Scope.{IsSmall, SpellsSmall, with_change};
+ghost use Rattle.outline_cmd.specs.Scope.{IsSmall, SpellsSmall};
+ghost use Rattle.outline_cmd.specs.Puts.{with_change};
 
 /// Bytes spell at most one small file.
 pub fn one_small_file()

@@ -1,16 +1,19 @@
 -- What a command says, without where its words lie in memory.
-use Rattle.std.specs.Prelude.{◌≡◌, ℕ, List, IsUtf8}
+use Rattle.std.specs.Prelude.{◌≡◌, ◌≤◌, ℕ, List, IsUtf8}
 use Rattle.std.specs.List.{AllByRecursion}
+use Rattle.std.specs.Char.{IsScalar}
 use Rattle.std.specs.Str.{chars}
 use Rattle.model.specs.Value as model
 use Rattle.model.specs.Text.{hex}
 use Rattle.model.specs.Edit as edits
+use Rattle.model.specs.Edit.{Edit}
 use Rattle.model.specs.Command as commands
 use Rattle.op_grammar.specs.declared.value.Value.TheVariants as plain
 use Rattle.outline_words.specs.declared.command.Command.{Command}
 use Rattle.outline_words.specs.declared.command.Command.TheVariants as c
 use Rattle.outline_words.specs.declared.command.WordValue.{WordValue}
 use Rattle.outline_words.specs.declared.command.WordValue.TheVariants as v
+use Rattle.outline_words.specs.Forms.{IsDocument, IsWordValue}
 use Rattle.outline_words.specs.Table.{Order, command, play, sample, edited, Spell}
 
 -- What the word of a value says. Bytes are left as their digits.
@@ -57,3 +60,22 @@ IsGiven words given = (order : Order) × Says given order × Spell words order
 -- each word is a text
 abbrev pub AreTexts : List (List ℕ) → Type 0
 AreTexts words = AllByRecursion IsUtf8 words
+
+-- What an order's words say is in form: texts are UTF-8, characters are scalar values, numbers are within their bounds.
+abbrev pub IsWordEdit : Edit → Type 0
+IsWordEdit (edits.new_child parent i) = Unit {0}
+IsWordEdit (edits.move_child child parent i) = Unit {0}
+IsWordEdit (edits.trash_child child) = Unit {0}
+IsWordEdit (edits.put_value node key value) = IsUtf8 key × IsWordValue value
+IsWordEdit (edits.unset_key node key) = IsUtf8 key
+IsWordEdit (edits.type_at node at characters) = AllByRecursion IsScalar characters
+IsWordEdit (edits.erase_at node at count) = Unit {0}
+IsWordEdit (edits.add_at node at value) = IsWordValue value
+IsWordEdit (edits.shift_to node from to) = Unit {0}
+IsWordEdit (edits.set_at node at value) = IsWordValue value
+IsWordEdit (edits.drop_at node at) = Unit {0}
+
+abbrev pub IsOrder : Order → Type 0
+IsOrder (command (commands.found document n name)) = IsDocument document × (1 ≤ n) × (n ≤ 32)
+IsOrder (command (commands.edit name e)) = IsWordEdit e
+IsOrder _ = Unit {0}

@@ -1,6 +1,7 @@
 //! The words of a command line, read from left to right.
 
-ghost use Rattle.std.specs.Prelude.{◌≡◌, ◌++◌, ◌∷◌, [], OnOk, OnErr, IfOk, IfErr};
+ghost use Rattle.std.specs.Prelude.{◌≡◌, ◌++◌, ◌∷◌, [], OnOk, OnErr, IfOk, IfErr, map, slice_get, string_bytes};
+ghost use Rattle.std.specs.Option.{option_map};
 ghost use Rattle.outline_words.specs.Table.{FirstWrong};
 ghost use Rattle.outline_words.specs.Commands.{IsGiven, AreTexts};
 
@@ -46,6 +47,13 @@ impl Words {
         let word = String::from_str(alloc, word)?;
         self.words.push(word)?;
         Ok(())
+    }
+
+    /// The word at a place, counted from 0, if there is one.
+    pub fn get(&self, place: usize) -> Option<&str>
+        ensures { option_map (λ word. word.now) result ≡ slice_get self.now place }
+    {
+        self.words.get(place).map(String::as_str)
     }
 }
 

@@ -1,0 +1,159 @@
+//! The program: the command that the words give, over the files, stored and printed.
+
+ghost use Rattle.std.specs.Prelude.{◌≡◌, ◌<◌, ◌≤◌, ℕ, List, [], Some, Ok, Err, IfOk, IfErr, length};
+ghost use Rattle.outside.specs.Files.{Files, file_at};
+ghost use Rattle.outside.specs.Keeper.{OnlyLoaded};
+ghost use Rattle.outside.specs.Seen.{seen_by};
+ghost use Rattle.model.specs.Change.{Change};
+ghost use Rattle.model.specs.Base.{members as members_of};
+ghost use Rattle.model.specs.Command.{Command as TheCommand, show as shows_name, new_file as made_file};
+ghost use Rattle.model.specs.Text.{holds_line};
+ghost use Rattle.model.specs.File.{file_limit};
+ghost use Rattle.model.specs.Stands.{Ledgers, AllStand};
+ghost use Rattle.outline_words.specs.Table.{Order, command as ordering, Spell};
+ghost use Rattle.outline_cmd.specs.Ending.{ending, refused};
+ghost use Rattle.outline_cmd.specs.Ledgers.{ShowsFile, ShowsLedger, KeepsLedgers, IsDone};
+ghost use Rattle.outline_cmd.specs.Meaning.{Loads, roles, exactly, ordered, order_meaning};
+ghost use Rattle.outline_cmd.specs.Puts.{storing, shown_from};
+ghost use Rattle.outline_cmd.specs.Tasks.{Does, task_made};
+ghost use Rattle.outline_cmd.specs.Run.{AreLoads, Runs, given_by, outside_by};
+ghost use Rattle.outline_cmd.specs.Stages.{Follows, answer_of};
+ghost use Rattle.outline_cmd.specs.declared.status.Status.{Status as TheStatus};
+ghost use Rattle.outline_cmd.specs.declared.status.Status.TheVariants.{Done};
+
+use crate::answer::{Answer, Store, check_size, finish};
+use crate::edit::edit_file;
+use crate::found::new_file;
+use crate::input::{check_unused, load_input, small_file};
+use crate::outline_show::{holds_text, show_text};
+use crate::scope::{Task, names_untaken, take};
+use crate::status::Status;
+use outline_words::{Words, read_words};
+use outside::{Keeper, Sink, Tally};
+use std::alloc::Global;
+
+/// The answer of `show` over the bytes of a file.
+fn show<'w>(alloc: Global, bytes: &[u8]) -> Result<Answer<'w>, Status>
+    requires { length bytes.now ≤ file_limit }
+    ensures { Follows answer_of result (shown_from bytes.now) }
+{
+    let file = small_file(alloc, 1, bytes)?;
+    let text = show_text(alloc, file.document)?;
+    Ok(Answer { text, store: None })
+}
+
+/// The answer of `found`.
+fn found<'w>(
+    alloc: Global,
+    document: &[u8; 16],
+    members: u8,
+    name: &'w str,
+) -> Result<Answer<'w>, Status>
+    requires { 0 < members }
+    ensures { Follows answer_of result (exactly (Ok (storing 3 name.now (made_file document.now members) (holds_line (members_of members))))) }
+{
+    let bytes = new_file(alloc, document, members)?;
+    let text = holds_text(alloc, members)?;
+    Ok(Answer {
+        text,
+        store: Some(Store {
+            word: 3,
+            name,
+            bytes,
+        }),
+    })
+}
+
+/// What a task makes of the bytes of its file, if it reads one.
+fn make<'w>(alloc: Global, task: Task<'w>, bytes: &[u8]) -> Result<Answer<'w>, Status>
+    requires short { length bytes.now ≤ file_limit }
+    ensures { (order : Order) → Does task.entry order → Follows answer_of result (task_made order bytes.now) }
+{
+    match task {
+        Task::Found {
+            document,
+            members,
+            name,
+        } => found(alloc, &document, members, name),
+        Task::Edit { name, edit } => edit_file(alloc, bytes, name, edit),
+        Task::Show { .. } => show(alloc, bytes),
+    }
+}
+
+/// The answer of a task, over the files that it names.
+fn answer<'w, K: Keeper>(
+    alloc: Global,
+    keeper: &mut K,
+    task: Task<'w>,
+) -> Result<Answer<'w>, Status>
+    ensures meant { let seen = seen_by K.files K.load_faults K.store_faults K.failed in
+        (order : Order) → Does task.entry order
+        → (loads : Loads) × AreLoads (seen keeper.old) (seen keeper.new) (roles order) loads
+        × Follows answer_of result (order_meaning loads order) }
+    ensures loads { OnlyLoaded K.files K.load_faults K.store_faults keeper.old keeper.new }
+{
+    let bytes = load_input(alloc, keeper, task.input())?;
+    let answer = make(alloc, task, &bytes)?;
+    check_unused(keeper, task.new_name())?;
+    check_size(&answer)?;
+    Ok(answer)
+}
+
+/// The task that the words give.
+fn read_task(alloc: Global, words: &Words) -> Result<Task<'_>, Status>
+    ensures ok { IfOk result (λ task. (order : Order) × Does task order × ordered 0 words.now (Ok order)) }
+    ensures err { IfErr result (λ status. ordered 0 words.now (Err status)) }
+    ensures early { IfErr result (λ status. ending status ≡ refused) }
+{
+    if names_untaken(words) {
+        return Err(Status::NotBuilt { word: 0 });
+    }
+    match read_words(alloc, words) {
+        Ok(command) => take(command),
+        Err(fault) => Err(Status::Words {
+            line: 0,
+            word: fault.word,
+        }),
+    }
+}
+
+/// Does all that the program does: the command that the words give, over the keeper's files, its file stored and its
+/// text printed to `out`. It takes any words, and counts no work.
+pub fn run<K: Keeper, S: Sink>(
+    alloc: Global,
+    words: &Words,
+    keeper: &mut K,
+    out: &mut S,
+    tally: &mut Tally,
+) -> Status
+    // The status, what is stored and what is printed are those that are meant over what the run loads, whatever the
+    // keeper and the sink tell.
+    ensures meant { Runs result 0 words.now
+        (outside_by (seen_by K.files K.load_faults K.store_faults K.failed keeper.old) (given_by S.written S.faults out.old))
+        (outside_by (seen_by K.files K.load_faults K.store_faults K.failed keeper.new) (given_by S.written S.faults out.new)) }
+    // The headline. A file that is shown is one file value, and the view of its document is printed.
+    ensures shows { (files : Files) (name : List ℕ) → K.files keeper.old ≡ Some files
+        → Spell words.now (ordering (shows_name name)) → result ≡ Done
+        → ShowsFile files name (S.written out.old) (S.written out.new) }
+    // Where it stands for a ledger, that is the view of replaying the ledger.
+    ensures shows_ledger { (files : Files) (ledgers : Ledgers) (name : List ℕ) (h : List Change)
+        → K.files keeper.old ≡ Some files → AllStand (file_at files) ledgers → ledgers name ≡ Some h
+        → Spell words.now (ordering (shows_name name)) → result ≡ Done
+        → ShowsLedger h (S.written out.old) (S.written out.new) }
+    // What a command leaves stands for the ledgers that it makes of those before.
+    ensures ledgers { (files now : Files) (ledgers : Ledgers) (c : TheCommand)
+        → K.files keeper.old ≡ Some files → K.files keeper.new ≡ Some now → AllStand (file_at files) ledgers
+        → ordered 0 words.now (Ok (ordering c)) → IsDone result → KeepsLedgers files now ledgers c }
+    // Words that are refused are refused before anything is loaded.
+    ensures unread { (refusal : TheStatus) → ordered 0 words.now (Err refusal) → keeper.new ≡ keeper.old }
+    ensures tally { tally.new ≡ tally.old }
+{
+    let task = match read_task(alloc, words) {
+        Ok(task) => task,
+        Err(status) => return status,
+    };
+    match answer(alloc, keeper, task) {
+        Ok(answer) => finish(keeper, out, &answer),
+        Err(status) => status,
+    }
+}
