@@ -1,32 +1,5 @@
-use Rattle.outline_words.specs.Commands.{IsOrder}
-use Rattle.outline_words.proofs.SpellLaws.{spelled_by_row}
+use Rattle.outline_words.proofs.OrderForms.{in_form}
 use Rattle.outline_words.proofs.laws.orders_are_in_form.Goals as goal
 
 pub returns : goal.returns
-returns c = spelled_by_row (λ words order. IsOrder order)
-    ((λ id is n within file named. (is, within.0, within.1)),
-    ((λ file a node b place c. tt),
-    ((λ file a child b parent c place d. tt),
-    ((λ file a child b. tt),
-    ((λ file a node b key c value d. (c, d)),
-    ((λ file a node b key c. c),
-    ((λ file a node b place c text d. d),
-    ((λ file a node b place c count d. tt),
-    ((λ file a node b place c value d. d),
-    ((λ file a node b from c to d. tt),
-    ((λ file a node b place c value d. d),
-    ((λ file a node b place c. tt),
-    ((λ file a. tt),
-    ((λ file a. tt),
-    ((λ file a. tt),
-    ((λ file a. tt),
-    ((λ file a counts b made c. tt),
-    ((λ file a other b. tt),
-    ((λ file a. tt),
-    ((λ file a made b. tt),
-    ((λ file a member b. tt),
-    ((λ file a member b made c. tt),
-    ((λ file a. tt),
-    ((λ file a. tt),
-    ((λ file a. tt),
-    ((λ seed a size b file c. tt), tt))))))))))))))))))))))))))
+returns c = in_form
