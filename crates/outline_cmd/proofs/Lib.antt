@@ -26,3 +26,9 @@ pub mod EmptyLaws
 pub mod SizeLaws
 pub mod SmallLaws
 pub mod MadeLaws
+pub mod OrderLaws
+pub mod RunEnds
+pub mod PipeLaws
+pub mod TaskLaws
+pub mod LinkLaws
+pub mod StepLaws

@@ -1,5 +1,5 @@
 -- What a run shows of files, and which ledgers files stand for after it.
-use Rattle.std.specs.Prelude.{◌≡◌, ◌⊎◌, ℕ, List}
+use Rattle.std.specs.Prelude.{◌≡◌, ◌⊎◌, ℕ, List, Option}
 use Rattle.outside.specs.Files.{Files, file_at}
 use Rattle.model.specs.Change.{Change}
 use Rattle.model.specs.State.{replay}
@@ -29,7 +29,7 @@ abbrev pub IsDone : Status → Type 0
 IsDone status = (status ≡ s.Done) ⊎ (status ≡ s.SinkFault)
 
 -- The files after a command stand for the ledgers that it makes of those before.
-pub record KeepsLedgers (files now : Files) (ledgers : Ledgers) (c : Command) : Type 1 where
+pub record KeepsLedgers (files now : Files) (ledgers : Ledgers) (c : Command) : Type 0 where
   pub next : Ledgers
   pub is_next : Next (file_at files) ledgers c next
   pub stand : AllStand (file_at now) next

@@ -9,7 +9,7 @@ use Rattle.outline_words.specs.Table.{Order}
 use Rattle.outline_cmd.specs.declared.status.Status.{Status}
 use Rattle.outline_cmd.specs.declared.status.Status.TheVariants.{NoMemory}
 use Rattle.outline_cmd.specs.Ending.{Ending, ending, done, unstored, unprinted, no_memory, refused}
-use Rattle.outline_cmd.specs.Meaning.{Meaning, Answer, Store, Roles, roles, Loaded, missing, failed, whole, Loads, ordered, meaning}
+use Rattle.outline_cmd.specs.Meaning.{Meaning, Answer, Store, Named, Roles, roles, Loaded, missing, failed, whole, Loads, ordered, meaning}
 
 -- ---- what is seen of the outside
 

@@ -17,7 +17,13 @@ ghost use Rattle.model.specs.Reading.{held_in, state_in, unfit_in, with_changes}
 ghost use Rattle.model.specs.Stands.{Stands};
 ghost use Rattle.model.specs.State.{replay};
 ghost use Rattle.model.specs.View.{view, entries_of};
-ghost use Rattle.outline_cmd.specs.Scope.{IsSmall, SpellsSmall};
+ghost use Rattle.std.specs.Prelude.{Ok, Err};
+ghost use Rattle.outline_words.specs.Table.{Order};
+ghost use Rattle.outline_cmd.specs.declared.status.Status.{Status as TheStatus};
+ghost use Rattle.outline_cmd.specs.Outcome.{Outcome};
+ghost use Rattle.outline_cmd.specs.Meaning.{Loads, Answer, roles, input_bytes, order_made, answered};
+ghost use Rattle.outline_cmd.specs.Tasks.{task_made};
+ghost use Rattle.outline_cmd.specs.Scope.{IsSmall, SpellsSmall, taken_order};
 ghost use Rattle.outline_cmd.specs.Puts.{with_change};
 
 /// Bytes spell at most one small file.
@@ -55,4 +61,15 @@ pub fn small_files_are_edited()
         ≡ planned f.members (held f.members f.kept) m (unset_key root_id key) (slice_get (wrong_key key) 0) }
     ensures stored { (f : File) (m : ℕ) (os : List Operation) → IsSmall f → m < f.members
         → let c = made f.members (held f.members f.kept) m os in with_changes f (c ∷ []) ≡ with_change f c }
+{}
+
+/// What the code makes of the bytes of a small file is what the command means over them.
+pub fn what_is_made_is_meant()
+    ensures made { (order : Order) (loads : Loads) (bytes : List ℕ) → input_bytes (roles order).input loads.input ≡ Ok bytes
+        → taken_order order ≡ Ok tt → (a : Answer) → task_made order bytes (Ok a)
+        → (o : Outcome) × order_made loads order (Ok o) × (answered (roles order) o ≡ a) }
+    ensures refused { (order : Order) (loads : Loads) (bytes : List ℕ) → input_bytes (roles order).input loads.input ≡ Ok bytes
+        → taken_order order ≡ Ok tt → (refusal : TheStatus) → task_made order bytes (Err refusal) → order_made loads order (Err refusal) }
+    ensures unread { (order : Order) (loads : Loads) (refusal : TheStatus) → input_bytes (roles order).input loads.input ≡ Err refusal
+        → order_made loads order (Err refusal) }
 {}

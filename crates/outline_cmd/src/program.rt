@@ -66,6 +66,7 @@ fn found<'w>(
 
 /// What a task makes of the bytes of its file, if it reads one.
 fn make<'w>(alloc: Global, task: Task<'w>, bytes: &[u8]) -> Result<Answer<'w>, Status>
+    requires given { (order : Order) × Does task order }
     requires short { length bytes.now ≤ file_limit }
     ensures { (order : Order) → Does task.entry order → Follows answer_of result (task_made order bytes.now) }
 {
@@ -86,6 +87,7 @@ fn answer<'w, K: Keeper>(
     keeper: &mut K,
     task: Task<'w>,
 ) -> Result<Answer<'w>, Status>
+    requires { (order : Order) × Does task order }
     ensures meant { let seen = seen_by K.files K.load_faults K.store_faults K.failed in
         (order : Order) → Does task.entry order
         → (loads : Loads) × AreLoads (seen keeper.old) (seen keeper.new) (roles order) loads

@@ -39,7 +39,7 @@ pub(crate) enum Task<'w> {
 impl<'w> Task<'w> {
     /// The file that the command reads.
     pub(crate) fn input(self) -> Option<Named<'w>>
-        ensures { (order : Order) → Does self order → option_map named_of result ≡ (roles order).input }
+        ensures { (order : Order) → Does self.entry order → option_map named_of result ≡ (roles order).input }
     {
         match self {
             Task::Found { .. } => None,
@@ -49,7 +49,7 @@ impl<'w> Task<'w> {
 
     /// The name that the command gives to a new file.
     pub(crate) fn new_name(self) -> Option<Named<'w>>
-        ensures { (order : Order) → Does self order → option_map named_of result ≡ (roles order).new }
+        ensures { (order : Order) → Does self.entry order → option_map named_of result ≡ (roles order).new }
     {
         match self {
             Task::Found { name, .. } => Some(Named { word: 3, name }),
@@ -100,7 +100,7 @@ fn is_untaken(word: &str) -> bool
 
 /// The edit of a node, which is taken for the root alone.
 fn edit_of<'w>(name: &'w str, node: OpId, edit: EditWords<'w>) -> Result<Task<'w>, Status>
-    ensures ok { IfOk result (λ task. (node ≡ root_id) × (task ≡ EditTask name edit)) }
+    ensures ok { IfOk result (λ task. (node ≡ root_id) × (task ≡ EditTask name.entry edit.entry)) }
     ensures err { IfErr result (λ status. (id_eq node root_id ≡ false) × (status ≡ NotBuilt 2)) }
 {
     if node == ROOT {

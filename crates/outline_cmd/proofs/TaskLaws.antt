@@ -1,0 +1,20 @@
+-- What tasks do is taken.
+use Rattle.std.proofs.Common.{◌≡◌, Ok, refl, sym, ap, subst, ◌∙◌}
+use Rattle.model.specs.Edit.{Edit}
+use Rattle.model.specs.Command.{edit}
+use Rattle.outline_words.specs.Table.{Order, command}
+use Rattle.outline_cmd.specs.declared.edit.EditWords.{EditWords}
+use Rattle.outline_cmd.specs.declared.edit.EditWords.TheVariants as w
+use Rattle.outline_cmd.specs.declared.scope.Task.{Task}
+use Rattle.outline_cmd.specs.declared.scope.Task.TheVariants as t
+use Rattle.outline_cmd.specs.Scope.{taken_edit, taken_order}
+use Rattle.outline_cmd.specs.Tasks.{SaysEdit, Does}
+
+edit_taken : (words : EditWords) (e : Edit) → SaysEdit words e → taken_edit e ≡ Ok tt
+edit_taken (w.Put key value) e (said, says, is, same) = rw same refl
+edit_taken (w.Unset key) e same = rw same refl
+
+pub does_taken : (task : Task) (order : Order) → Does task order → taken_order order ≡ Ok tt
+does_taken (t.Found document members name) order (same, some) = rw same refl
+does_taken (t.Edit name words) order (e, says, same) = rw same (edit_taken words e says)
+does_taken (t.Show name) order same = rw same refl
