@@ -1,9 +1,9 @@
 -- The base of no changes keeps the rules of bases.
-use Rattle.std.proofs.Common.{◌≡◌, ◌≢◌, ℕ, zero, suc, ◌+◌, ◌^◌, ◌<◌, ◌≤◌, ◌⊎◌, inl, inr, true, false, ◌||◌, List, [], ◌∷◌, length, map, replicate, get_or, Option, Some, None, refl, sym, ap, subst, ◌∙◌, arith, lit<}
+use Rattle.std.proofs.Common.{◌≡◌, ℕ, zero, suc, ◌^◌, ◌⊎◌, inl, inr, true, false, List, [], ◌∷◌, map, replicate, get_or, Some, None, refl, sym, ap, subst, ◌∙◌, arith, lit<}
 use Rattle.std.specs.Prelude.{slice_get, slice_index, is_some, IsTrue}
-use Rattle.std.specs.List.{AllByRecursion, range_with_len}
+use Rattle.std.specs.List.{AllByRecursion}
 use Rattle.std.specs.List.Sorted.{IsStrictlySortedBy}
-use Rattle.std.specs.FinMap.{FinMap, empty, entries, get, get-empty, len}
+use Rattle.std.specs.FinMap.{empty, entries, get, get-empty, len}
 use Rattle.std.specs.declared.cmp.Ordering.{Ordering}
 use Rattle.std.proofs.lemmas.Bool.{cases_lt}
 use Rattle.std.proofs.lemmas.List.{length-replicate, get_or-replicate, get_or_past}
@@ -11,10 +11,10 @@ use Rattle.std.proofs.lemmas.List.FromFn.{length-map-range_with_len}
 use Rattle.op_ids.specs.declared.OpId.{OpId}
 use Rattle.op_ids.specs.Order.{id_cmp, id_eq, root_id, trash_id}
 use Rattle.op_ids.proofs.OrderLaws.{id_eq-exact}
-use Rattle.model.specs.State.{State, RowKey, row_cmp, Register, register_cmp, Place, Character, Written, Element, empty_state, is_fixed, is_above, has_node}
+use Rattle.model.specs.State.{row_cmp, register_cmp, Place, Character, Written, Element, empty_state, is_fixed, is_above}
 use Rattle.model.specs.Operation.{Anchor}
-use Rattle.model.specs.Base.{Base, MemberRow, members, member_row, base_of}
-use Rattle.model.specs.BaseItem.{base_parts, HasForms, IsMemberRow, IsNodeRow, IsPositionRow, IsRegisterRow, IsCharacterRow, IsElementRow, TablesRise, keys, IsForest, NodesStand, ElementsStand, Stand, LeadUp, TablesBy, AreBy, RowAgrees, RowsAgree}
+use Rattle.model.specs.Base.{MemberRow, members, member_row, base_of}
+use Rattle.model.specs.BaseItem.{base_parts, HasForms, IsMemberRow, IsNodeRow, IsPositionRow, IsRegisterRow, IsCharacterRow, IsElementRow, TablesRise, keys, IsForest, Stand, LeadUp, TablesBy, AreBy, RowAgrees}
 use Rattle.model.specs.File.{IsBase}
 use Rattle.model_laws.proofs.ListLaws.{all_map, all_of_any}
 use Rattle.model_laws.proofs.TreeLaws.{above_itself, or_cases}

@@ -32,3 +32,6 @@ pub mod PipeLaws
 pub mod TaskLaws
 pub mod LinkLaws
 pub mod StepLaws
+pub mod LedgerMeaning
+pub mod MeantLaws
+pub mod RunMeaning

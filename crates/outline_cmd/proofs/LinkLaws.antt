@@ -138,10 +138,11 @@ Links loads order r = (o : Result Outcome Status) × order_made loads order o ×
 put_links : (loads : Loads) (name : List ℕ) (e : Edit) (key : List ℕ) (value : Value) (bytes : List ℕ) (r : Result Answer Status) → read 1 loads.input ≡ Ok bytes
     → ((f : File) (m : ℕ) (ms : List ℕ) → IsSmall f → f.mine ≡ m ∷ ms → made_edit f.members (held_in f) f.mine e ≡ put_planned f m key value (slice_get (wrong_key key ++ wrong_value value) 0))
     → put_from name bytes key value r → Links loads (command (edit name e)) r
-put_links loads name e key value bytes r is made (Ok f, spells, steps) =
-    (on (taken_editor f.mine f.kept) (λ u. edited e f),
-    (Ok f, small_read 1 member_files loads.input bytes f is spells refl, some_outcome (taken_editor f.mine f.kept) _ (λ u. edited e f) (λ u. refl)),
-    edit_link name f e key value r spells.is_small (λ m ms. made f m ms spells.is_small) steps)
+put_links loads name e key value bytes r is made (Ok f, spells, steps) = (
+  on (taken_editor f.mine f.kept) (λ u. edited e f),
+  (Ok f, small_read 1 member_files loads.input bytes f is spells refl, some_outcome (taken_editor f.mine f.kept) _ (λ u. edited e f) (λ u. refl)),
+  edit_link name f e key value r spells.is_small (λ m ms. made f m ms spells.is_small) steps,
+)
 put_links loads name e key value bytes r is made (Err refusal, why, steps) =
     (Err refusal, (Err refusal, (Ok bytes, sym is, (Err refusal, why, refl)), refl), steps)
 
@@ -152,11 +153,12 @@ show_links : (loads : Loads) (name bytes : List ℕ) (r : Result Answer Status) 
 unfolding shown_text
 show_links loads name bytes r is (Ok f, spells, steps) =
     let fits = none_unfit f spells.is_small in
-    let same = state_is f spells.is_small in
-    (on (refused_told 1 (unfit_in f)) (λ u. Ok (record { text = show_text (view (state_in f)); stored = None })),
-    (Ok f, small_read 1 based_files loads.input bytes f is spells refl, refl),
-    steps ∙ ap (λ (st : State). shows_state st) (sym same)
-    ∙ ap (λ p. answer_told (reads name) (on (refused_told 1 p) (λ u. Ok (record { text = show_text (view (state_in f)); stored = None })))) (sym fits))
+    let same = state_is f spells.is_small in (
+      on (refused_told 1 (unfit_in f)) (λ u. Ok (record { text = show_text (view (state_in f)); stored = None })),
+      (Ok f, small_read 1 based_files loads.input bytes f is spells refl, refl),
+      steps ∙ ap (λ (st : State). shows_state st) (sym same)
+          ∙ ap (λ p. answer_told (reads name) (on (refused_told 1 p) (λ u. Ok (record { text = show_text (view (state_in f)); stored = None })))) (sym fits),
+    )
 show_links loads name bytes r is (Err refusal, why, steps) =
     (Err refusal, (Err refusal, (Ok bytes, sym is, (Err refusal, why, refl)), refl), steps)
 

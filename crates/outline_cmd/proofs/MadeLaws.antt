@@ -1,20 +1,20 @@
 -- What is made of a small file, and of nothing: it is small.
-use Rattle.std.proofs.Common.{◌≡◌, ℕ, ◌+◌, ◌<◌, ◌≤◌, ◌^◌, true, List, [], ◌∷◌, ◌++◌, length, map, refl, sym, ap, subst, ◌∙◌, arith, lit<, lit≤}
-use Rattle.std.specs.Prelude.{Option, None, Some, filter, slice_get, unwrap_or}
+use Rattle.std.proofs.Common.{◌≡◌, ℕ, ◌+◌, ◌<◌, ◌≤◌, ◌^◌, true, List, [], ◌∷◌, ◌++◌, length, refl, sym, ap, subst, ◌∙◌, arith, lit<, lit≤}
+use Rattle.std.specs.Prelude.{Option, None, filter, slice_get, unwrap_or}
 use Rattle.std.specs.List.{AllByRecursion}
 use Rattle.std.proofs.lemmas.Bool.{eq-eqb}
 use Rattle.std.proofs.lemmas.List.{append-nil, length-append}
 use Rattle.op_ids.specs.Order.{root_id}
 use Rattle.cbor_det.specs.Head.{IsBytes}
 use Rattle.cbor_det.specs.Item as cbor
-use Rattle.model.specs.Value.{Value, null}
+use Rattle.model.specs.Value.{Value}
 use Rattle.model.specs.Operation.{Operation, put_key, IsOperation, operation_item}
 use Rattle.model.specs.Change.{Change}
 use Rattle.model.specs.Base.{Base, members, count_of, base_of}
 use Rattle.model.specs.Held.{held, held_behind, waits, first_unfit}
 use Rattle.model.specs.Ledger.{greatest_time, made}
 use Rattle.model.specs.State.{after, atoms, replay}
-use Rattle.model.specs.Edit.{Edit, put_value, unset_key, wrong_key, wrong_value, edit_fault}
+use Rattle.model.specs.Edit.{Edit, put_value, unset_key, wrong_key, wrong_value}
 use Rattle.model.specs.Command.{new_file, planned, made_edit, with_made}
 use Rattle.model.specs.File.{File}
 use Rattle.model.specs.Reading.{base_in, held_in, state_in, unfit_in, with_changes}
@@ -26,7 +26,7 @@ use Rattle.outline_cmd.specs.Puts.{with_change}
 use Rattle.outline_cmd.specs.declared.small_file.Last.{Last}
 use Rattle.outline_cmd.specs.SmallFile.{may_follow, after_change, no_change, last_in, file_of}
 use Rattle.outline_cmd.proofs.PartLaws.{IsWithin}
-use Rattle.outline_cmd.proofs.ChangeLaws.{IsMaker, IsNext}
+use Rattle.outline_cmd.proofs.ChangeLaws.{IsNext}
 use Rattle.outline_cmd.proofs.ChainLaws.{GoOn}
 use Rattle.outline_cmd.proofs.RuleLaws.{small_goes_on}
 use Rattle.outline_cmd.proofs.FileLaws.{Rises-from_sorted, all_some, header_in, header_is, small_from_chain}

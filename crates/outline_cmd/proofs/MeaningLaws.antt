@@ -1,5 +1,5 @@
 -- What steps that are done tell.
-use Rattle.std.proofs.Common.{◌≡◌, ℕ, ◌≤◌, true, false, Bool, cond, leb, List, ◌+◌, length, Result, Ok, Err, refl, sym, ap, subst}
+use Rattle.std.proofs.Common.{◌≡◌, ℕ, ◌≤◌, true, false, Bool, cond, leb, List, ◌+◌, length, Ok, Err, refl, sym, ap, subst}
 use Rattle.std.proofs.lemmas.Bool.{leb-true}
 use Rattle.model.specs.File.{file_limit}
 use Rattle.outline_cmd.specs.declared.status.Status.TheVariants as s

@@ -1,5 +1,5 @@
 -- What words are refused with, and which command they give.
-use Rattle.std.proofs.Common.{◌≡◌, ℕ, Bool, true, false, List, Result, Ok, Err, IfOk, IfErr, refl, sym, ap, subst, ◌∙◌}
+use Rattle.std.proofs.Common.{◌≡◌, ℕ, true, false, List, Result, Ok, Err, IfOk, IfErr, refl, sym, subst}
 use Rattle.op_grammar.specs.Values.{value_of}
 use Rattle.op_grammar.specs.declared.value.Value.{Value}
 use Rattle.op_grammar.specs.declared.value.Value.TheVariants as plain
@@ -7,7 +7,7 @@ use Rattle.model.specs.Value as model
 use Rattle.outline_words.specs.Commands.{SaysValue}
 use Rattle.outline_words.specs.declared.command.WordValue.TheVariants as v
 use Rattle.outline_words.specs.Table.{Order, Spell, FirstWrong}
-use Rattle.outline_words.proofs.SpellLaws.{one_order, spelled_not_wrong, one_first_wrong}
+use Rattle.outline_words.proofs.SpellLaws.{one_order, spelled_not_wrong}
 use Rattle.outline_cmd.specs.Meaning.{ordered}
 use Rattle.outline_cmd.specs.Scope.{names_untaken, taken_words, taken_order}
 use Rattle.outline_cmd.specs.declared.status.Status.{Status}

@@ -1,19 +1,18 @@
 -- The stages of a command, one after the other, answer what it means.
-use Rattle.std.proofs.Common.{◌≡◌, ℕ, ◌≤◌, List, length, Option, None, Some, Result, Ok, Err, refl, sym, ap, subst, ◌∙◌}
+use Rattle.std.proofs.Common.{◌≡◌, ℕ, ◌≤◌, List, Option, Result, Ok, Err, sym, subst}
 use Rattle.outside.specs.Seen.{Seen}
 use Rattle.outline_words.specs.Table.{Order}
 use Rattle.outline_cmd.specs.declared.answer.Answer.{Answer as AnswerStruct}
 use Rattle.outline_cmd.specs.declared.status.Status.{Status}
 use Rattle.outline_cmd.specs.Ending.{Ending, ending, done, unstored, unprinted, no_memory, refused}
-use Rattle.outline_cmd.specs.Meaning.{Meaning, ◌>>=◌, exactly, Named, roles, Loaded, Loads, input_bytes, unused, Answer, answered, sized, order_made, order_meaning}
-use Rattle.outline_cmd.specs.Outcome.{Outcome}
+use Rattle.outline_cmd.specs.Meaning.{Meaning, ◌>>=◌, exactly, Named, roles, Loaded, Loads, input_bytes, unused, Answer, sized, order_made, order_meaning}
 use Rattle.outline_cmd.specs.Run.{AreLoads, IsLoadOf}
 use Rattle.outline_cmd.specs.Scope.{taken_order}
 use Rattle.outline_cmd.specs.Stages.{Refuses, RefusesAs, Follows, answer_of}
 use Rattle.outline_cmd.specs.Tasks.{task_made}
 use Rattle.outline_cmd.proofs.LinkLaws.{made_means, refusal_means, unread_means}
 use Rattle.outline_cmd.proofs.Loads.{some_load_for, quiet_later, earlier_load}
-use Rattle.outline_cmd.proofs.StageLaws.{refuses_first, refuses_next, follows_next}
+use Rattle.outline_cmd.proofs.StageLaws.{refuses_first, follows_next}
 
 -- ---- refusals
 
@@ -47,7 +46,7 @@ input_refused old new order at load status named is refuses =
       loads,
       record { input = subst (λ (n : Option Named). IsLoadOf old new n load) named is; second = other.1; new_file = new_load.1 },
       refuses_first (order_made loads order) _ status
-      (refuses_by (exactly (input_bytes (roles order).input load)) (order_made loads order) status
+          (refuses_by (exactly (input_bytes (roles order).input load)) (order_made loads order) status
           (λ (e : Err status ≡ input_bytes (roles order).input load). unread_means order loads status (sym e))
           (subst (λ (n : Option Named). Refuses (exactly (input_bytes n load)) status) named refuses)),
     )
@@ -63,7 +62,7 @@ make_refused old new order at load bytes status named taken is read refuses =
       loads,
       record { input = subst (λ (n : Option Named). IsLoadOf old new n load) named is; second = other.1; new_file = new_load.1 },
       refuses_first (order_made loads order) _ status
-      (refuses_by (task_made order bytes) (order_made loads order) status (λ (e : task_made order bytes (Err status)). refusal_means order loads bytes reads taken status e) refuses),
+          (refuses_by (task_made order bytes) (order_made loads order) status (λ (e : task_made order bytes (Err status)). refusal_means order loads bytes reads taken status e) refuses),
     )
 
 -- What is left of a command behind what it makes.
@@ -86,5 +85,5 @@ made_ends old mid new order at at2 load load2 bytes a result named named2 taken 
         new_file = subst (λ (n : Option Named). IsLoadOf old new n load2) named2 (earlier_load old mid new at2 load2 files count name is2);
       },
       follows_next answer_of (order_made loads order) _ o result means
-      (subst (λ (b : Answer). Follows answer_of result (ends_with (roles order).new load2 b)) (sym same) (subst (λ (n : Option Named). Follows answer_of result (ends_with n load2 a)) named2 follows)),
+          (subst (λ (b : Answer). Follows answer_of result (ends_with (roles order).new load2 b)) (sym same) (subst (λ (n : Option Named). Follows answer_of result (ends_with n load2 a)) named2 follows)),
     )

@@ -1,32 +1,22 @@
 -- What a run prints and leaves, of what its stages answered.
-use Rattle.std.proofs.Common.{arith, ◌≡◌, ℕ, ◌≤◌, List, take, Option, None, Some, Result, Ok, Err, ◌⊎◌, inl, inr, refl, sym, ap, subst, ◌∙◌}
+use Rattle.std.proofs.Common.{arith, ◌≡◌, ℕ, ◌≤◌, List, Option, None, Some, Result, Ok, Err, ◌⊎◌, inl, inr, refl, sym, ap, subst, ◌∙◌}
 use Rattle.std.specs.Prelude.{IsSome}
 use Rattle.outside.specs.Faults.{Rose}
 use Rattle.outside.specs.Files.{Files}
 use Rattle.outside.specs.Seen.{Seen}
-use Rattle.outside.specs.Sink.{appended}
 use Rattle.outline_words.specs.Table.{Order}
 use Rattle.outline_cmd.specs.declared.answer.Answer.{Answer as AnswerStruct}
 use Rattle.outline_cmd.specs.declared.answer.Store.{Store as StoreStruct}
 use Rattle.outline_cmd.specs.declared.status.Status.{Status}
 use Rattle.outline_cmd.specs.declared.status.Status.TheVariants as s
 use Rattle.outline_cmd.specs.Ending.{Ending, ending, done, unstored, unprinted, no_memory, refused}
-use Rattle.outline_cmd.specs.Ledgers.{IsDone}
 use Rattle.outline_cmd.specs.Meaning.{Meaning, Answer, Loads, missing, ordered, meaning, order_meaning, roles}
-use Rattle.outline_cmd.specs.Run.{Given, Outside, outside_by, AreLoads, with_store_told, AnswersAs, Answers, Runs}
-use Rattle.outline_cmd.specs.Stages.{Refuses, RefusesAs, FinishesAs, Finishes, answer_of}
+use Rattle.outline_cmd.specs.Run.{Given, Outside, outside_by, AreLoads, AnswersAs, Answers, Runs}
+use Rattle.outline_cmd.specs.Stages.{Refuses, RefusesAs, Finishes, answer_of}
 use Rattle.outline_cmd.proofs.Loads.{later_load}
 use Rattle.outline_cmd.proofs.OrderLaws.{given_once, refused_or_given}
 
 -- ---- a run that has its answer
-
--- what is done is printed, and stored
-pub done_prints : (status : Status) (a : Answer) (files now : Option Files) (old new : Option (List ℕ)) → Finishes status a files now old new → status ≡ s.Done → new ≡ appended old a.text
-done_prints status a files now old new is e = (subst (λ (t : Status). Finishes t a files now old new) e is).1
-
-pub done_stores : (status : Status) (a : Answer) (files now : Option Files) (old new : Option (List ℕ)) → Finishes status a files now old new → IsDone status → now ≡ with_store_told a.store files
-done_stores status a files now old new is (inl e) = (subst (λ (t : Status). Finishes t a files now old new) e is).0
-done_stores status a files now old new is (inr e) = (subst (λ (t : Status). Finishes t a files now old new) e is).0
 
 -- What finishes with an answer that is meant answers it.
 finished : (status : Status) (meant : Meaning Answer) (a : Answer) (before after : Outside) → meant (Ok a)

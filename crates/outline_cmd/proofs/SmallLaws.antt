@@ -1,7 +1,7 @@
 -- What small files stand for, and what they show.
-use Rattle.std.proofs.Common.{◌≡◌, ◌≢◌, ℕ, suc, ◌+◌, ◌<◌, ◌≤◌, ◌&&◌, ◌||◌, true, false, cond, eqb, ltb, List, [], ◌∷◌, ◌++◌, refl, sym, ap, subst, ◌∙◌, arith, inl, inr}
+use Rattle.std.proofs.Common.{◌≡◌, ℕ, suc, ◌+◌, ◌<◌, ◌≤◌, true, eqb, ltb, List, [], ◌∷◌, ◌++◌, refl, sym, ap, subst, ◌∙◌, arith, inl, inr}
 use Rattle.std.specs.FinMap.{get, len}
-use Rattle.std.specs.Prelude.{flat_map, Option, Some, None, filter_map, find, map, max, replicate, slice_get, slice_index}
+use Rattle.std.specs.Prelude.{flat_map, Some, None, find, max, replicate, slice_get, slice_index}
 use Rattle.std.specs.List.{AllByRecursion}
 use Rattle.std.specs.Ordering.{is_lt}
 use Rattle.std.proofs.lemmas.Bool.{cases_eq, eqb-true, lt-ltb, or_right}
@@ -15,14 +15,14 @@ use Rattle.op_ids.proofs.OrderLaws.{lt_from_stamps}
 use Rattle.model.specs.Value.{Value}
 use Rattle.model.specs.Operation.{Operation, put_key, width_of}
 use Rattle.model.specs.Change.{Change, IsChange, change_stamp, has_name, AreInTimeOrder, EachAfter}
-use Rattle.model.specs.State.{State, Atom, apart, by_ids, step, after, replay, empty_state, atoms, change_atoms}
+use Rattle.model.specs.State.{State, apart, by_ids, step, after, replay, empty_state, atoms, change_atoms}
 use Rattle.model.specs.Base.{Base, members, count_of, last_change, last_of, known_by, known_of, time_of, rows_of_changes, base_of}
-use Rattle.model.specs.Held.{Held, held, waits, late_cause, wrong_ids, wrong_references, first_unfit}
+use Rattle.model.specs.Held.{held, waits, late_cause, wrong_ids, wrong_references, first_unfit}
 use Rattle.model.specs.Ledger.{IsAmong, Joins, Sound}
 use Rattle.model.specs.Edit.{put_value, unset_key, wrong_key, wrong_value, edit_fault}
 use Rattle.model.specs.File.{File, member_file, bundle}
 use Rattle.model.specs.Stands.{Stands}
-use Rattle.model.specs.View.{ViewNode, entries_of, view, in_view}
+use Rattle.model.specs.View.{entries_of, view, in_view}
 use Rattle.model_laws.proofs.ListLaws.{all_front, all_back, all_more, all_both, all_of_any, set_most, last_passing, first_passing, option_map_or_either}
 use Rattle.model_laws.proofs.ChangeLaws.{stamp_earlier, stamp_less, earlier_stamps, EachAfter-at, EachAfter-from_at, EachAfter-front, all_from_EachAfter, count_of_itself, members_below}
 use Rattle.arrival_laws.proofs.SoundLaws.{Numbered, name, ready_to, fits_from}

@@ -1,8 +1,7 @@
 -- What tasks do is taken.
-use Rattle.std.proofs.Common.{◌≡◌, Ok, refl, sym, ap, subst, ◌∙◌}
+use Rattle.std.proofs.Common.{◌≡◌, Ok, refl}
 use Rattle.model.specs.Edit.{Edit}
-use Rattle.model.specs.Command.{edit}
-use Rattle.outline_words.specs.Table.{Order, command}
+use Rattle.outline_words.specs.Table.{Order}
 use Rattle.outline_cmd.specs.declared.edit.EditWords.{EditWords}
 use Rattle.outline_cmd.specs.declared.edit.EditWords.TheVariants as w
 use Rattle.outline_cmd.specs.declared.scope.Task.{Task}

@@ -1,5 +1,5 @@
 -- How faults are printed: a fault's name, and its fields in order, each after a space.
-use Rattle.std.specs.Prelude.{ℕ, List, ◌∷◌, ◌++◌, codes, decimal}
+use Rattle.std.specs.Prelude.{ℕ, List, ◌++◌, codes}
 use Rattle.op_ids.specs.Text.{id_word}
 use Rattle.cbor_det.specs.FaultText.{fault_text}
 use Rattle.cbor_det.specs.Notation.{hex}

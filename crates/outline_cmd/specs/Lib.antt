@@ -7,6 +7,7 @@ pub mod Meaning
 pub mod Ending
 pub mod Run
 pub mod Ledgers
+pub mod OfBytes
 pub mod Script
 pub mod Puts
 pub mod Tasks

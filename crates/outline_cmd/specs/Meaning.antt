@@ -1,6 +1,6 @@
 -- What a command line means, over what loading its files brings: its answer, or its refusal. Steps are read in their order, and the
 -- first that refuses ends them.
-use Rattle.std.specs.Prelude.{◌≡◌, ℕ, ◌+◌, nat_le, if◌then◌else◌, List, [], ◌∷◌, length, flat_map, Option, Some, None, Result, Ok, Err}
+use Rattle.std.specs.Prelude.{◌≡◌, ℕ, ◌+◌, nat_le, if◌then◌else◌, List, [], ◌∷◌, length, Option, Some, None, Result, Ok, Err}
 use Rattle.std.specs.Option.{option_map}
 use Rattle.cbor_det.specs.Item.{Item, Spells}
 use Rattle.cbor_det.specs.Flaw.{HasFlaw}

@@ -53,7 +53,7 @@ abbrev pub WrongOnLine : List (List ℕ) → ℕ → Type 0
 WrongOnLine words i =
     ((texts : List (List ℕ)) × AllSay words texts × FirstWrong texts i)
     ⊎ ((place : ℕ) × (texts : List (List ℕ)) × StopsAt words place texts × ((FirstWrong (texts ++ [] ∷ []) i × (i < place))
-      ⊎ ((i ≡ place) × ((j : ℕ) → FirstWrong (texts ++ [] ∷ []) j → place ≤ j))))
+    ⊎ ((i ≡ place) × ((j : ℕ) → FirstWrong (texts ++ [] ∷ []) j → place ≤ j))))
 
 -- ---- running
 
@@ -89,9 +89,9 @@ pub data Plays : ℕ → List (List ℕ) → Status → Outside → Outside → 
 -- A script was read from the file with this name, and played.
 pub record PlaysScript (status : Status) (name : List ℕ) (before after : Outside) : Type 0 where
   pub loads : Loads
-  pub read : Outside
-  pub loaded : AreLoads before.keeper read.keeper (reads name) loads
-  pub same : Unchanged before read
+  pub between : Outside
+  pub loaded : AreLoads before.keeper between.keeper (reads name) loads
+  pub same : Unchanged before between
   pub script : List ℕ
   pub is_script : read 1 loads.input ≡ Ok script
-  pub plays : Plays 1 (lines script) status read after
+  pub plays : Plays 1 (lines script) status between after

@@ -23,13 +23,13 @@ ghost use Rattle.outline_cmd.specs.Stages.{answer_of, Follows};
 ghost use Rattle.outline_cmd.specs.declared.status.Status.TheVariants.{NoMemory};
 
 use crate::answer::{Answer, Store};
+use crate::faults::{EditFault, MemberFault};
 use crate::input::small_file;
 use crate::operations::{MAX_KEY_LEN, MAX_VALUE_LEN};
 use crate::outline_show::made_text;
 use crate::put_change::append_put;
 use crate::replica::MAX_KEPT;
 use crate::small_file::SmallFile;
-use crate::faults::{EditFault, MemberFault};
 use crate::status::Status;
 use cbor_det::put_uint;
 use op_grammar::{Head, Value};

@@ -39,20 +39,6 @@ pub struct DocRef {
     pub n: u8,
 }
 
-impl fmt::Display for DocRef {
-    ghost use Rattle.std.specs.Prelude.{Some};
-    ghost use Rattle.outline_cmd.specs.FaultText.{document_text};
-
-    ghost output = { λ fault. Some (document_text fault) };
-
-    fn fmt<W: fmt::Write>(&self, f: &mut fmt::Formatter<W>) -> fmt::Result {
-        for byte in self.id {
-            write!(f, "{byte:02x}")?;
-        }
-        write!(f, " {}", self.n)
-    }
-}
-
 /// What is wrong with a member that a command names, or that makes an edit.
 #[derive(Clone, Copy, Debug, PartialEq, Eq)]
 pub enum MemberFault {

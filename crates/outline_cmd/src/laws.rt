@@ -17,11 +17,18 @@ ghost use Rattle.model.specs.Reading.{held_in, state_in, unfit_in, with_changes}
 ghost use Rattle.model.specs.Stands.{Stands};
 ghost use Rattle.model.specs.State.{replay};
 ghost use Rattle.model.specs.View.{view, entries_of};
-ghost use Rattle.std.specs.Prelude.{Ok, Err};
-ghost use Rattle.outline_words.specs.Table.{Order};
+ghost use Rattle.std.specs.Prelude.{Result, Ok, Err};
+ghost use Rattle.outline_words.specs.Table.{Order, command};
+ghost use Rattle.outside.specs.Files.{Files, file_at};
+ghost use Rattle.model.specs.Command.{Command as TheCommand};
+ghost use Rattle.model.specs.Stands.{Ledgers, AllStand};
+ghost use Rattle.outline_words.specs.Commands.{IsOrder};
+ghost use Rattle.outline_cmd.specs.Run.{AreOf, with_store};
+ghost use Rattle.outline_cmd.specs.Ledgers.{KeepsLedgers};
 ghost use Rattle.outline_cmd.specs.declared.status.Status.{Status as TheStatus};
 ghost use Rattle.outline_cmd.specs.Outcome.{Outcome};
-ghost use Rattle.outline_cmd.specs.Meaning.{Loads, Answer, roles, input_bytes, order_made, answered};
+ghost use Rattle.outline_cmd.specs.Meaning.{Loads, Answer, roles, command_roles, input_bytes, order_made, answered, order_meaning, meaning};
+ghost use Rattle.outline_cmd.specs.OfBytes.{AreOfBytes};
 ghost use Rattle.outline_cmd.specs.Tasks.{task_made};
 ghost use Rattle.outline_cmd.specs.Scope.{IsSmall, SpellsSmall, taken_order};
 ghost use Rattle.outline_cmd.specs.Puts.{with_change};
@@ -63,6 +70,14 @@ pub fn small_files_are_edited()
         → let c = made f.members (held f.members f.kept) m os in with_changes f (c ∷ []) ≡ with_change f c }
 {}
 
+/// Words mean one outcome over loads, and an order does.
+pub fn one_is_meant()
+    ensures order { (loads : Loads) (order : Order) (one other : Result Answer TheStatus)
+        → order_meaning loads order one → order_meaning loads order other → one ≡ other }
+    ensures words { (loads : Loads) (line : ℕ) (words : List (List ℕ)) (one other : Result Answer TheStatus)
+        → meaning loads line words one → meaning loads line words other → one ≡ other }
+{}
+
 /// What the code makes of the bytes of a small file is what the command means over them.
 pub fn what_is_made_is_meant()
     ensures made { (order : Order) (loads : Loads) (bytes : List ℕ) → input_bytes (roles order).input loads.input ≡ Ok bytes
@@ -72,4 +87,17 @@ pub fn what_is_made_is_meant()
         → taken_order order ≡ Ok tt → (refusal : TheStatus) → task_made order bytes (Err refusal) → order_made loads order (Err refusal) }
     ensures unread { (order : Order) (loads : Loads) (refusal : TheStatus) → input_bytes (roles order).input loads.input ≡ Err refusal
         → order_made loads order (Err refusal) }
+{}
+
+/// A command that is meant leaves files that stand for the ledgers that it makes of those before, whatever the command is.
+pub fn ledgers_are_kept()
+    ensures { (files : Files) (ledgers : Ledgers) (c : TheCommand) (loads : Loads) (a : Answer) → AllStand (file_at files) ledgers
+        → IsOrder (command c) → AreOf files (command_roles c) loads → order_meaning loads (command c) (Ok a)
+        → KeepsLedgers files (with_store a.store files) ledgers c }
+{}
+
+/// Any words mean something over loads of bytes.
+pub fn some_is_meant()
+    ensures { (loads : Loads) (line : ℕ) (words : List (List ℕ)) → AreOfBytes loads
+        → (outcome : Result Answer TheStatus) × meaning loads line words outcome }
 {}

@@ -1,4 +1,4 @@
-use Rattle.std.proofs.Common.{◌≡◌, ℕ, List, [], ◌∷◌, string_bytes, Ok, refl, sym, ap, subst, ◌∙◌, arith}
+use Rattle.std.proofs.Common.{◌≡◌, [], ◌∷◌, string_bytes, Ok, sym}
 use Rattle.std.proofs.lemmas.Result.{err_from_is_err_and}
 use Rattle.op_ids.specs.Order.{root_id}
 use Rattle.model.specs.Operation.{Operation, put_key}
@@ -10,7 +10,7 @@ use Rattle.op_grammar.specs.Changes.{change_of}
 use Rattle.op_grammar.specs.Values.{value_of}
 use Rattle.outline_cmd.specs.Meaning.{exactly}
 use Rattle.outline_cmd.specs.Puts.{put_in, editor_among, checked_put, clocked_in}
-use Rattle.outline_cmd.specs.Stages.{answer_of, Follows, Refuses}
+use Rattle.outline_cmd.specs.Stages.{Refuses}
 use Rattle.outline_cmd.proofs.StageLaws.{refuses_first, refuses_next}
 use Rattle.outline_cmd.proofs.edit.add_put.Goals as goal
 

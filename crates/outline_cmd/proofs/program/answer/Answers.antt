@@ -2,7 +2,7 @@ use Rattle.std.proofs.Common.{Ok, Err}
 use Rattle.std.proofs.lemmas.Result.{err_from_is_err_and}
 use Rattle.std.specs.Option.{option_map}
 use Rattle.outside.specs.Seen.{seen_by}
-use Rattle.outline_cmd.specs.Meaning.{exactly, unused, sized}
+use Rattle.outline_cmd.specs.Meaning.{exactly, unused}
 use Rattle.outline_cmd.specs.Stages.{answer_of, named_of}
 use Rattle.outline_cmd.proofs.StageLaws.{refuses_first, refuses_next}
 use Rattle.outline_cmd.proofs.TaskLaws.{does_taken}

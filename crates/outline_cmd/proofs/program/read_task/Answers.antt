@@ -1,4 +1,4 @@
-use Rattle.std.proofs.Common.{◌≡◌, List, Result, Ok, Err, IfOk, IfErr, sym}
+use Rattle.std.proofs.Common.{◌≡◌, Ok, Err, sym}
 use Rattle.outline_words.specs.Table.{Order}
 use Rattle.outline_words.proofs.OrderForms.{in_form}
 use Rattle.outline_cmd.specs.Meaning.{ordered}

@@ -1,6 +1,7 @@
-use Rattle.std.proofs.Common.{List, ℕ, Ok, ap, subst, sym, ◌≡◌, ◌∙◌}
+use Rattle.std.proofs.Common.{ap}
 use Rattle.outside.specs.Seen.{seen_by}
 use Rattle.outline_cmd.specs.Run.{given_by, outside_by}
+use Rattle.outline_cmd.proofs.RunMeaning.{run_shows, run_shows_ledger, run_keeps_ledgers}
 use Rattle.outline_cmd.proofs.OrderLaws.{refused_or_given}
 use Rattle.outline_cmd.proofs.RunEnds.{runs_wrong, runs_refused, runs_finished}
 use Rattle.outline_cmd.proofs.program.run.Goals as goal
@@ -47,3 +48,21 @@ pub returns-in-Err-answer-clause-unread : goal.returns-in-Err-answer-clause-unre
 returns-in-Err-answer-clause-unread g c = λ refusal refuses.
     let (order, does, goes) = c.in-Ok.ensures.ok in
     absurd (refused_or_given 0 c.args.words.now order refusal goes refuses)
+
+pub returns-in-Ok-answer-clause-shows : goal.returns-in-Ok-answer-clause-shows
+returns-in-Ok-answer-clause-shows g c =
+    let seen = seen_by g.K.Keeper.files g.K.Keeper.load_faults g.K.Keeper.store_faults g.K.Keeper.failed in
+    let given = given_by g.S.Sink.written g.S.Sink.faults in
+    run_shows c.finish.result c.args.words.now (outside_by (seen c.args.keeper.now) (given c.args.out.now)) (outside_by (seen c.finish.new.keeper) (given c.finish.new.out)) (returns-in-Ok-answer-clause-meant g c)
+
+pub returns-in-Ok-answer-clause-shows_ledger : goal.returns-in-Ok-answer-clause-shows_ledger
+returns-in-Ok-answer-clause-shows_ledger g c =
+    let seen = seen_by g.K.Keeper.files g.K.Keeper.load_faults g.K.Keeper.store_faults g.K.Keeper.failed in
+    let given = given_by g.S.Sink.written g.S.Sink.faults in
+    run_shows_ledger c.finish.result c.args.words.now (outside_by (seen c.args.keeper.now) (given c.args.out.now)) (outside_by (seen c.finish.new.keeper) (given c.finish.new.out)) (returns-in-Ok-answer-clause-meant g c)
+
+pub returns-in-Ok-answer-clause-ledgers : goal.returns-in-Ok-answer-clause-ledgers
+returns-in-Ok-answer-clause-ledgers g c =
+    let seen = seen_by g.K.Keeper.files g.K.Keeper.load_faults g.K.Keeper.store_faults g.K.Keeper.failed in
+    let given = given_by g.S.Sink.written g.S.Sink.faults in
+    run_keeps_ledgers c.finish.result c.args.words.now (outside_by (seen c.args.keeper.now) (given c.args.out.now)) (outside_by (seen c.finish.new.keeper) (given c.finish.new.out)) (returns-in-Ok-answer-clause-meant g c)
