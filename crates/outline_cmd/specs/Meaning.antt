@@ -177,7 +177,7 @@ items_of loads = do
   bytes ← exactly (read 1 loads.input)
   itemized bytes
 
--- A script is read here. What its lines do is said of runs.
+-- A script is read, and its reading is refused as that of any file. What its lines do is said in Script.
 abbrev pub script_of : Loads → Meaning Outcome
 script_of loads = do
   bytes ← exactly (read 1 loads.input)

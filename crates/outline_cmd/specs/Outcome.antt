@@ -39,7 +39,7 @@ abbrev pub ◌>>=◌ : {A B : Type 0} → Result A Status → (A → Result B St
 (Ok x) >>= next = next x
 (Err refusal) >>= next = Err refusal
 
--- nothing, where the test holds
+-- goes on where the test holds
 abbrev pub provided : Bool → Status → Result Unit Status
 provided test refusal = if test then Ok tt else Err refusal
 
@@ -100,7 +100,7 @@ member_of m f = provided (nat_lt m f.members) (s.Member (NoMember m f.members))
 abbrev pub holds : ℕ → File → Bool
 holds m f = list_any (λ k. k == m) f.mine
 
--- A file that somebody holds.
+-- The file holds a member.
 abbrev pub held_by_some : File → Result Unit Status
 held_by_some f = provided (not (length f.mine == 0)) (s.Member Nobody)
 

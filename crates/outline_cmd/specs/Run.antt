@@ -73,7 +73,7 @@ with_store (Some store) files = stored files store.name store.bytes
 abbrev pub with_store_told : Option Store → Option Files → Option Files
 with_store_told store told = option_map (with_store store) told
 
--- They hold what is stored, and are else as they were, where they are told.
+-- The files hold what is stored, and are else as they were, where they are told.
 abbrev pub Stored : Option Store → Outside → Outside → Type 0
 Stored store before after = after.keeper.files ≡ with_store_told store before.keeper.files
 

@@ -90,7 +90,7 @@ exchanged t =
     let a = send c a in
     record { a = a; b = send c b; c = c }
 
--- All acknowledge what they hold, and the first is trimmed.
+-- All exchange, then all acknowledge what they hold, and the first is trimmed.
 abbrev pub evened : Three → Three
 evened t =
     let e = exchanged t in

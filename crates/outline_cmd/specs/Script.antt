@@ -1,11 +1,11 @@
 -- Scripts: what their lines say, and what running them does.
 use Rattle.std.specs.Prelude.{◌≡◌, ◌≢◌, ◌⊎◌, ◌<◌, ◌≤◌, ◌++◌, ℕ, suc, ◌==◌, if◌then◌else◌, List, [], ◌∷◌, codes, length, take, Some, Ok, slice_get, IsUtf8}
 use Rattle.outside.specs.Faults.{Rose}
-use Rattle.outline_words.specs.Table.{Order, Spell, FirstWrong}
+use Rattle.outline_words.specs.Table.{Order, play, Spell, FirstWrong}
 use Rattle.outline_cmd.specs.declared.status.Status.{Status}
 use Rattle.outline_cmd.specs.declared.status.Status.TheVariants as s
 use Rattle.outline_cmd.specs.Meaning.{Loads, read, reads}
-use Rattle.outline_cmd.specs.Run.{Outside, AreLoads, Printed, Unchanged, Runs}
+use Rattle.outline_cmd.specs.Run.{Outside, AreLoads, Printed, Later, Runs}
 
 -- ---- lines
 
@@ -48,7 +48,7 @@ pub record StopsAt (words : List (List ℕ)) (place : ℕ) (texts : List (List �
   pub mute : (text : List ℕ) (word : List ℕ) → slice_get words place ≡ Some word → Says word text → ⊥
 
 -- The first wrong word of a line: one of words that all say texts; or, where a word says none, that one, or one before it which is wrong
--- whatever follows.
+-- whatever follows. An empty word stands in for the one that says none.
 abbrev pub WrongOnLine : List (List ℕ) → ℕ → Type 0
 WrongOnLine words i =
     ((texts : List (List ℕ)) × AllSay words texts × FirstWrong texts i)
@@ -64,12 +64,19 @@ echo line = codes "> " ++ (line ++ 10 ∷ [])
 abbrev pub PlaysAnother : List ℕ → Type 0
 PlaysAnother line = (word : List ℕ) × (slice_get (parts line) 0 ≡ Some word) × Says word (codes "play")
 
+-- The line was printed whole, and nothing else happened.
+pub record Echoes (line : List ℕ) (before after : Outside) : Type 0 where
+  pub keeper : after.keeper ≡ before.keeper
+  pub printed : Printed (echo line) before.sink.written after.sink.written
+  pub later : before.sink.faults ≤ after.sink.faults
+
 -- A line runs as the command line of its words. No script is played from a script.
-pub data LineRuns (n : ℕ) (line : List ℕ) (status : Status) (before after : Outside) : Type 0 where
-  nested : PlaysAnother line → status ≡ s.Words n 0 → Unchanged before after → LineRuns n line status before after
-  wrong : (word : ℕ) → (PlaysAnother line → ⊥) → WrongOnLine (parts line) word → status ≡ s.Words n word → Unchanged before after → LineRuns n line status before after
-  runs : (texts : List (List ℕ)) (order : Order) → (PlaysAnother line → ⊥) → AllSay (parts line) texts → Spell texts order → Runs status n texts before after
-      → LineRuns n line status before after
+pub data LineRuns (n : ℕ) (line : List ℕ) : Status → Outside → Outside → Type 0 where
+  nested : (now : Outside) → PlaysAnother line → LineRuns n line (s.Words n 0) now now
+  wrong : (word : ℕ) (now : Outside) → (PlaysAnother line → ⊥) → WrongOnLine (parts line) word → LineRuns n line (s.Words n word) now now
+  no_memory : (now : Outside) → LineRuns n line s.NoMemory now now
+  runs : (texts : List (List ℕ)) (order : Order) (status : Status) (before after : Outside) → (PlaysAnother line → ⊥) → AllSay (parts line) texts → Spell texts order
+      → Runs status n texts before after → LineRuns n line status before after
 
 -- The lines are run in turn, from this number on, each after it was printed. The first that isn't Done ends the script with its status.
 pub data Plays : ℕ → List (List ℕ) → Status → Outside → Outside → Type 0 where
@@ -80,18 +87,25 @@ pub data Plays : ℕ → List (List ℕ) → Status → Outside → Outside → 
   unechoed : (n : ℕ) (line : List ℕ) (more : List (List ℕ)) (before after : Outside) → (IsPassed line → ⊥) → IsUtf8 line → after.keeper ≡ before.keeper
       → (len : ℕ) → Printed (take len (echo line)) before.sink.written after.sink.written → Rose before.sink.faults after.sink.faults → Plays n (line ∷ more) s.SinkFault before after
   stops : (n : ℕ) (line : List ℕ) (more : List (List ℕ)) (status : Status) (before echoed after : Outside) → (IsPassed line → ⊥) → IsUtf8 line
-      → echoed.keeper ≡ before.keeper → Printed (echo line) before.sink.written echoed.sink.written → LineRuns n line status echoed after → status ≢ s.Done → Plays n (line ∷ more) status before after
+      → Echoes line before echoed → LineRuns n line status echoed after → status ≢ s.Done → Plays n (line ∷ more) status before after
   goes_on : (n : ℕ) (line : List ℕ) (more : List (List ℕ)) (status : Status) (before echoed between after : Outside) → (IsPassed line → ⊥) → IsUtf8 line
-      → echoed.keeper ≡ before.keeper → Printed (echo line) before.sink.written echoed.sink.written → LineRuns n line s.Done echoed between → Plays (suc n) more status between after
-      → Plays n (line ∷ more) status before after
-  no_memory : (n : ℕ) (lines : List (List ℕ)) (now : Outside) → Plays n lines s.NoMemory now now
+      → Echoes line before echoed → LineRuns n line s.Done echoed between → Plays (suc n) more status between after → Plays n (line ∷ more) status before after
 
--- A script was read from the file with this name, and played.
+-- A script was read from the file with this name, by loads alone, and then its lines were played.
 pub record PlaysScript (status : Status) (name : List ℕ) (before after : Outside) : Type 0 where
   pub loads : Loads
   pub between : Outside
   pub loaded : AreLoads before.keeper between.keeper (reads name) loads
-  pub same : Unchanged before between
+  pub files : between.keeper.files ≡ before.keeper.files
+  pub later : Later before between
+  pub sink : between.sink ≡ before.sink
   pub script : List ℕ
   pub is_script : read 1 loads.input ≡ Ok script
   pub plays : Plays 1 (lines script) status between after
+
+-- What running any words is: their command is run once; or they are those of a script, which is read and played. A script that can't be
+-- read is refused as any file is.
+abbrev pub Ran : Status → List (List ℕ) → Outside → Outside → Type 0
+Ran status words before after =
+    (Runs status 0 words before after × (status ≡ s.Done → (name : List ℕ) → Spell words (play name) → ⊥))
+    ⊎ ((name : List ℕ) × Spell words (play name) × PlaysScript status name before after)

@@ -48,7 +48,7 @@ pub enum MemberFault {
     NotHeld { member: u8 },
     /// The file holds the member.
     Held { member: u8 },
-    /// An edit of a file that holds no member.
+    /// An edit or an acknowledgement of a file that holds no member.
     Nobody,
 }
 
@@ -107,7 +107,7 @@ impl fmt::Display for Misfit {
 /// What is wrong with an edit.
 #[derive(Clone, Copy, Debug, PartialEq, Eq)]
 pub enum EditFault {
-    /// The node isn't in the view.
+    /// The node isn't in the view, or is none.
     NoNode = 1,
     /// The place is behind the last one.
     NoIndex = 2,
