@@ -1,5 +1,5 @@
 -- Heads of changes, and what the calls answer that look at the item of a change.
-use Rattle.std.specs.Prelude.{◌≡◌, ◌⊎◌, ℕ, ◌<◌, ◌≤◌, ◌^◌, List, length, take, drop, Result, Ok, Err}
+use Rattle.std.specs.Prelude.{◌≡◌, ◌⊎◌, ℕ, ◌<◌, ◌≤◌, ◌^◌, List, length, take, Result, Ok, Err}
 use Rattle.std.specs.Borrow.{Bor}
 use Rattle.cbor_det.specs.Item.{Item}
 use Rattle.model.specs.Operation.{Operation}
@@ -23,12 +23,9 @@ change_of h os = record { member = h.member; number = h.number; time = h.time; c
 abbrev pub parts_by : Head → List ℕ → ChangeParts
 parts_by h bytes = record { member = h.member; number = h.number; time = h.time; causes = h.causes; count = h.count; width = h.width; body = bytes }
 
--- the rules that the head decides, G1 to G5, and those of the body, G6 and G7
+-- the rules that the head decides, G1 to G5
 abbrev pub head_rules : List model.Rule
 head_rules = take 5 change_rules
-
-abbrev pub body_rules : List model.Rule
-body_rules = drop 5 change_rules
 
 -- What a read of a change answers: its head and its body, where the item is that of a change of n members, or the first rule that the item breaks.
 abbrev pub ChangeAnswer : ℕ → Item → Result (Head × Bor (List ℕ)) Rule → Type 0

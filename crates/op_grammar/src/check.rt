@@ -1,6 +1,6 @@
 //! The rules of a change.
 
-ghost use Rattle.std.specs.Prelude.{◌≡◌, ◌↔◌, ◌<◌, ◌≤◌, ◌^◌, ℕ, List, length, IsTrue};
+ghost use Rattle.std.specs.Prelude.{◌≡◌, ◌↔◌, ◌<◌, ◌≤◌, ◌^◌, List, length, IsTrue};
 ghost use Rattle.cbor_det.specs.Item.{Item, IsSpelled, spell, Spells};
 ghost use Rattle.model.specs.Change.{ChangeParts};
 ghost use Rattle.model.specs.Rules.{IsBody};

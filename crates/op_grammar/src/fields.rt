@@ -1,12 +1,11 @@
 //! Fields of operations, read.
 
-ghost use Rattle.std.specs.Prelude.{◌≡◌, ◌↔◌, ◌≤◌, ℕ, List, [], ◌∷◌, ◌++◌, length, None, IfSome, IsTrue, IsUtf8};
-ghost use Rattle.std.specs.List.{AllByRecursion};
-ghost use Rattle.std.specs.Char.{IsScalar};
-ghost use Rattle.cbor_det.specs.Head.{IsBytes};
-ghost use Rattle.op_ids.specs.declared.OpId.{OpId as TheId};
-ghost use Rattle.cbor_det.specs.Item.{Item, unsigned};
-ghost use Rattle.cbor_det.specs.Unread.{unread};
+ghost use Rattle.std.specs.Prelude.{◌≡◌, ◌↔◌, ◌≤◌, ℕ, List, [], ◌∷◌, ◌++◌, length, None, IfSome, IsSomeAnd, IsTrue, IsUtf8};
+ghost use Rattle.cbor_det.specs.Head.{IsBytes, head};
+ghost use Rattle.op_ids.specs.declared.OpId.{OpId as Id};
+ghost use Rattle.op_ids.specs.declared.Side.{Side as ASide};
+ghost use Rattle.cbor_det.specs.Item.{Item, spell, unsigned};
+ghost use Rattle.cbor_det.specs.Unread.{unread, Took};
 ghost use Rattle.model.specs.Value.{row, id_item, IsOpId, value_item, IsValue, integer};
 ghost use Rattle.model.specs.Value as model;
 ghost use Rattle.model.specs.Operation.{side_item, IsAnchor, IsKey, IsTyped, utf8};
@@ -35,6 +34,9 @@ const MAX_RUN: u64 = 4_096;
 /// A number, where one stands.
 pub(crate) fn read_number(cursor: &mut Cursor<'_>) -> Option<u64>
     ensures item { ReadsField (λ n. n) unsigned (λ n. Unit {0}) (unread cursor.old) (unread cursor.new) result }
+    ensures took { IfSome result (λ n.
+        Took (spell (unsigned n)) (unread cursor.old) (unread cursor.new)) }
+    ensures len { (unread cursor.new).len ≡ (unread cursor.old).len }
     ensures kept { result ≡ None → unread cursor.new ≡ unread cursor.old }
 {
     match cursor.uint() {
@@ -45,7 +47,9 @@ pub(crate) fn read_number(cursor: &mut Cursor<'_>) -> Option<u64>
 
 /// How many items the row has that stands there.
 pub(crate) fn read_row(cursor: &mut Cursor<'_>) -> Option<u64>
-    ensures { ReadsRow (unread cursor.old) (unread cursor.new) result }
+    ensures item { ReadsRow (unread cursor.old) (unread cursor.new) result }
+    ensures took { IfSome result (λ n. Took (head 4 n) (unread cursor.old) (unread cursor.new)) }
+    ensures len { (unread cursor.new).len ≡ (unread cursor.old).len }
 {
     match cursor.array() {
         Ok(count) => Some(count),
@@ -55,7 +59,10 @@ pub(crate) fn read_row(cursor: &mut Cursor<'_>) -> Option<u64>
 
 /// Two numbers that stand first in a row.
 fn read_two_numbers(cursor: &mut Cursor<'_>) -> Option<(u64, u64)>
-    ensures { ReadsFields 2 (λ p. p) (λ p. unsigned p.0 ∷ unsigned p.1 ∷ []) (λ p. Unit {0} × Unit {0}) (unread cursor.old) (unread cursor.new) result }
+    ensures item { ReadsFields 2 (λ p. p) (λ p. unsigned p.0 ∷ unsigned p.1 ∷ []) (λ p. Unit {0} × Unit {0}) (unread cursor.old) (unread cursor.new) result }
+    ensures took { IfSome result (λ p. Took (spell (unsigned p.0) ++ spell (unsigned p.1))
+        (unread cursor.old) (unread cursor.new)) }
+    ensures len { (unread cursor.new).len ≡ (unread cursor.old).len }
 {
     let first = read_number(cursor)?;
     let second = read_number(cursor)?;
@@ -64,7 +71,11 @@ fn read_two_numbers(cursor: &mut Cursor<'_>) -> Option<(u64, u64)>
 
 /// Three numbers that stand first in a row.
 pub(crate) fn read_numbers(cursor: &mut Cursor<'_>) -> Option<(u64, (u64, u64))>
-    ensures { ReadsFields 3 (λ p. p) (λ p. unsigned p.0 ∷ unsigned p.1.0 ∷ unsigned p.1.1 ∷ []) (λ p. Unit {0} × (Unit {0} × Unit {0})) (unread cursor.old) (unread cursor.new) result }
+    ensures item { ReadsFields 3 (λ p. p) (λ p. unsigned p.0 ∷ unsigned p.1.0 ∷ unsigned p.1.1 ∷ []) (λ p. Unit {0} × (Unit {0} × Unit {0})) (unread cursor.old) (unread cursor.new) result }
+    ensures took { IfSome result (λ p.
+        Took (spell (unsigned p.0) ++ (spell (unsigned p.1.0) ++ spell (unsigned p.1.1)))
+        (unread cursor.old) (unread cursor.new)) }
+    ensures len { (unread cursor.new).len ≡ (unread cursor.old).len }
 {
     let time = read_number(cursor)?;
     let rest = read_two_numbers(cursor)?;
@@ -73,7 +84,11 @@ pub(crate) fn read_numbers(cursor: &mut Cursor<'_>) -> Option<(u64, (u64, u64))>
 
 /// A row of three numbers, where one stands.
 fn read_three(cursor: &mut Cursor<'_>) -> Option<(u64, (u64, u64))>
-    ensures { ReadsField (λ p. p) (λ p. row (unsigned p.0 ∷ unsigned p.1.0 ∷ unsigned p.1.1 ∷ [])) (λ p. Unit {0} × (Unit {0} × Unit {0})) (unread cursor.old) (unread cursor.new) result }
+    ensures item { ReadsField (λ p. p) (λ p. row (unsigned p.0 ∷ unsigned p.1.0 ∷ unsigned p.1.1 ∷ [])) (λ p. Unit {0} × (Unit {0} × Unit {0})) (unread cursor.old) (unread cursor.new) result }
+    ensures took { IfSome result (λ p.
+        Took (spell (row (unsigned p.0 ∷ unsigned p.1.0 ∷ unsigned p.1.1 ∷ [])))
+        (unread cursor.old) (unread cursor.new)) }
+    ensures len { (unread cursor.new).len ≡ (unread cursor.old).len }
 {
     let count = read_row(cursor)?;
     if count != 3 {
@@ -85,6 +100,13 @@ fn read_three(cursor: &mut Cursor<'_>) -> Option<(u64, (u64, u64))>
 /// An id of a document of so many members, where one stands. Else the cursor stays.
 pub fn read_id(cursor: &mut Cursor<'_>, n: u8) -> Option<OpId>
     ensures item { ReadsField (λ id. id) id_item (IsOpId n) (unread cursor.old) (unread cursor.new) result }
+    // An id that is read is spelled so, and one that is spelled here is read; likewise below.
+    ensures found { IfSome result (λ id. IsOpId n id
+        × Took (spell (id_item id)) (unread cursor.old) (unread cursor.new)) }
+    ensures only { (id : Id) (more : List ℕ) → IsOpId n id
+        → (unread cursor.old).rest ≡ spell (id_item id) ++ more
+        → IsSomeAnd result (λ i. i ≡ id) × ((unread cursor.new).rest ≡ more) }
+    ensures len { (unread cursor.new).len ≡ (unread cursor.old).len }
     ensures kept { result ≡ None → unread cursor.new ≡ unread cursor.old }
 {
     let mut ahead = *cursor;
@@ -107,6 +129,12 @@ pub fn read_id(cursor: &mut Cursor<'_>, n: u8) -> Option<OpId>
 /// A side, where one stands. Else the cursor stays.
 pub fn read_side(cursor: &mut Cursor<'_>) -> Option<Side>
     ensures item { ReadsField (λ s. s) side_item (λ s. Unit {0}) (unread cursor.old) (unread cursor.new) result }
+    ensures found { IfSome result (λ s.
+        Took (spell (side_item s)) (unread cursor.old) (unread cursor.new)) }
+    ensures only { (side : ASide) (more : List ℕ)
+        → (unread cursor.old).rest ≡ spell (side_item side) ++ more
+        → IsSomeAnd result (λ s. s ≡ side) × ((unread cursor.new).rest ≡ more) }
+    ensures len { (unread cursor.new).len ≡ (unread cursor.old).len }
     ensures kept { result ≡ None → unread cursor.new ≡ unread cursor.old }
 {
     let mut ahead = *cursor;
@@ -202,6 +230,12 @@ pub(crate) fn read_key<'a>(cursor: &mut Cursor<'a>) -> Option<&'a str>
 /// A value, where one stands. Else the cursor stays.
 pub fn read_value<'a>(cursor: &mut Cursor<'a>) -> Option<Value<'a>>
     ensures item { ReadsField value_of value_item IsValue (unread cursor.old) (unread cursor.new) result }
+    ensures found { IfSome result (λ v. IsValue (value_of v)
+        × Took (spell (value_item (value_of v))) (unread cursor.old) (unread cursor.new)) }
+    ensures only { (value : model.Value) (more : List ℕ) → IsValue value
+        → (unread cursor.old).rest ≡ spell (value_item value) ++ more
+        → IsSomeAnd result (λ v. value_of v ≡ value) × ((unread cursor.new).rest ≡ more) }
+    ensures len { (unread cursor.new).len ≡ (unread cursor.old).len }
     ensures kept { result ≡ None → unread cursor.new ≡ unread cursor.old }
 {
     let mut ahead = *cursor;
@@ -240,7 +274,10 @@ fn is_short(bytes: &[u8]) -> bool
 
 /// What an item says as a value, whatever its length.
 fn read_said<'a>(cursor: &mut Cursor<'a>) -> Option<Value<'a>>
-    ensures { ReadsField value_of value_item IsSaid (unread cursor.old) (unread cursor.new) result }
+    ensures item { ReadsField value_of value_item IsSaid (unread cursor.old) (unread cursor.new) result }
+    ensures took { IfSome result (λ v.
+        Took (spell (value_item (value_of v))) (unread cursor.old) (unread cursor.new)) }
+    ensures len { (unread cursor.new).len ≡ (unread cursor.old).len }
 {
     match cursor.simple() {
         Ok(simple) => return Some(of_simple(simple)),

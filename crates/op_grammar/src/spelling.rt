@@ -7,7 +7,7 @@ ghost use Rattle.cbor_det.specs.Item.{spell, unsigned};
 ghost use Rattle.cbor_det.specs.Head.{head as cbor_head};
 ghost use Rattle.cbor_det.proofs.PlainLaws.{Plain};
 ghost use Rattle.model.specs.Value.{row, id_item, numbers_item};
-ghost use Rattle.model.specs.Operation.{operation_item, new_node, move_node, put_key, type_text, erase_text, add_item, shift_item, set_item, drop_item, side_item};
+ghost use Rattle.model.specs.Operation.{operation_item, new_node, put_key, type_text, erase_text, add_item, set_item, drop_item, side_item};
 ghost use Rattle.model.specs.Change.{parts_item, body as body_of};
 ghost use Rattle.op_grammar.specs.Values.{value_of};
 ghost use Rattle.op_grammar.specs.Operations.{anchor_of, operation_of, operations_of};

@@ -4,7 +4,7 @@ use Rattle.std.specs.Prelude.{Some, None}
 use Rattle.cbor_det.specs.Item.{Item}
 use Rattle.cbor_det.specs.Unread.{unread}
 use Rattle.model.specs.Value as model
-use Rattle.model.specs.Value.{id_item, IsOpId, value_item, IsValue}
+use Rattle.model.specs.Value.{value_item, IsValue}
 use Rattle.model.specs.Operation.{IsKey}
 use Rattle.op_grammar.specs.Values.{value_of}
 use Rattle.cbor_det.proofs.RowLaws.{one, both_read, second_stops, first_stops}

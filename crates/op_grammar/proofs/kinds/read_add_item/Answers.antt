@@ -5,7 +5,7 @@ use Rattle.op_ids.specs.declared.Side.{Side}
 use Rattle.op_grammar.specs.declared.value.Value.{Value}
 use Rattle.cbor_det.specs.Unread.{unread}
 use Rattle.model.specs.Value as model
-use Rattle.model.specs.Value.{id_item, IsOpId, value_item, IsValue}
+use Rattle.model.specs.Value.{value_item, IsValue}
 use Rattle.model.specs.Operation.{Anchor, add_item}
 use Rattle.op_grammar.specs.declared.operation.OpRef.TheVariants as ops
 use Rattle.op_grammar.specs.Values.{value_of}
