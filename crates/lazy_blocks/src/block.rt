@@ -1,6 +1,6 @@
 //! One change.
 
-ghost use Rattle.std.specs.Prelude.{◌≡◌, ◌<◌, ◌≤◌, IfOk, IfErr};
+ghost use Rattle.std.specs.Prelude.{◌≡◌, ◌<◌, ◌≤◌, length, IfOk, IfErr};
 ghost use Rattle.cbor_det.specs.Item.{Item, IsSpelled, spell};
 ghost use Rattle.model.specs.Change.{IsChange, change_item};
 ghost use Rattle.model.specs.Rules.{BreaksFirst, KeepsChange, change_rules};
@@ -53,6 +53,14 @@ impl<'a> Block<'a> {
         ensures { result.now ≡ head_of self.now }
     {
         &self.head
+    }
+
+    /// How many members its document has.
+    pub fn members(&self) -> u8
+        ensures value { result ≡ length self.now.causes }
+        ensures change { IsChange (length self.now.causes) self.now }
+    {
+        self.head.causes.len()
     }
 
     /// The very bytes that were checked.
