@@ -1,0 +1,13 @@
+pub mod EmptyItem
+pub mod EmptyLaws
+pub mod NumberLaws
+pub mod FieldLaws
+pub mod HeaderLaws
+pub mod ChangeLaws
+pub mod LeadLaws
+pub mod OpeningLaws
+pub mod CountLaws
+pub mod ScanLaws
+pub mod PartLaws
+pub mod WriteLaws
+pub mod AnswerLaws
