@@ -1,18 +1,19 @@
 -- A command over files that stand for ledgers: what it shows of a ledger, and which ledgers it leaves.
-use Rattle.std.proofs.Common.{◌≡◌, ◌≢◌, ℕ, ◌<◌, ◌≤◌, ◌&&◌, Bool, true, false, cond, eqb, ltb, leb, List, [], ◌∷◌, length, Option, None, Some, Result, Ok, Err, ◌⊎◌, inl, inr, ⊎_elim, refl, sym, ap, subst, ◌∙◌}
+use Rattle.std.proofs.Common.{◌≡◌, ◌≢◌, ℕ, ◌<◌, ◌≤◌, Bool, true, false, cond, eqb, ltb, leb, List, [], ◌∷◌, length, Option, None, Some, Result, Ok, Err, ◌⊎◌, inl, inr, ⊎_elim, refl, sym, ap, subst, ◌∙◌}
 use Rattle.std.specs.Prelude.{◌++◌, codes, not, bytes_eq, slice_get, unwrap_or}
 use Rattle.std.specs.Option.{option_map}
 use Rattle.std.specs.List.{AllByRecursion, list_any}
 use Rattle.std.specs.FinMap.{get, get-insert}
 use Rattle.std.specs.Cmp.Lexicographic.{slice_cmp}
-use Rattle.std.specs.Ordering.{nat_cmp, eq_by_cmp, is_eq}
+use Rattle.std.specs.Ordering.{nat_cmp, eq_by_cmp}
 use Rattle.std.specs.declared.cmp.Ordering.{Ordering}
-use Rattle.std.specs.declared.cmp.Ordering.TheVariants.{Less, Equal, Greater}
 use Rattle.std.proofs.lemmas.Bool.{leb-true, ltb-true, eqb-true}
 use Rattle.std.proofs.lemmas.Cmp.{nat_list_cmp_total, eq_by_cmp_equiv}
 use Rattle.std.proofs.lemmas.Map.Lookups.{exact_bytes}
 use Rattle.std.proofs.lemmas.Map.Text.{is_eq-slice_cmp}
 use Rattle.outside.specs.Files.{Files, file_at, stored}
+use Rattle.op_ids.proofs.OrderLaws.{equal_from_is_eq}
+use Rattle.model_laws.proofs.Tables.{both_true}
 use Rattle.model.specs.Value as v
 use Rattle.model.specs.Value.{Value}
 use Rattle.model.specs.Edit as edits
@@ -40,7 +41,7 @@ use Rattle.keeping_laws.proofs.WrittenLaws.{written_are_stored}
 use Rattle.outline_words.specs.Forms.{IsWordValue}
 use Rattle.outline_words.specs.Commands.{IsWordEdit, IsOrder}
 use Rattle.outline_words.specs.Table.{command}
-use Rattle.outline_cmd.specs.declared.faults.MemberFault.TheVariants as faults
+use Rattle.replica.specs.declared.fault.MemberFault.TheVariants as faults
 use Rattle.outline_cmd.specs.declared.status.Status.{Status}
 use Rattle.outline_cmd.specs.declared.status.Status.TheVariants as s
 use Rattle.outline_cmd.specs.Outcome.{Outcome, storing, provided, told, printed, status_text, listed, checked, fitting_by_kind, held_by_some, member_of, holds as holds_member, of_kind, fitting, same_document, edited, acknowledged, shown, delivered, bundled, trimmed_told, cut_off, trimmed, snapped, released, begun, with_made_lines}
@@ -65,20 +66,11 @@ told_done : {A : Type 0} (made : Result A Unmade) (x : A) → told made ≡ Ok x
 told_done (Ok y) x e = cc
 told_done (Err w) x e = absurd cc
 
-both_true : (a b : Bool) → (a && b) ≡ true → (a ≡ true) × (b ≡ true)
-both_true true b e = (refl, e)
-both_true false b e = absurd cc
-
 -- ---- files by name
 
 -- the order of names
 abbrev name_cmp : List ℕ → List ℕ → Ordering
 name_cmp = slice_cmp nat_cmp
-
-equal_from_is_eq : (o : Ordering) → is_eq o ≡ true → o ≡ Equal
-equal_from_is_eq Less e = cc
-equal_from_is_eq Equal e = refl
-equal_from_is_eq Greater e = cc
 
 same_bytes : (a b : List ℕ) → bytes_eq a b ≡ true → a ≡ b
 same_bytes a b e = exact_bytes a b (equal_from_is_eq (slice_cmp nat_cmp a b) (is_eq-slice_cmp a b ∙ e))
@@ -103,7 +95,7 @@ record IsRead (files : Files) (name : List ℕ) (kinds : List Kind) (f : File) :
   holds : Holds (file_at files) name f
   kind : list_any (λ k. eqb (kind_number k) (kind_number f.kind)) kinds ≡ true
 
-kind_passed : (b : Bool) (f g : File) (refusal : Status) → Ok f ≡ on (provided b refusal) (λ u. Ok g) → (b ≡ true) × (f ≡ g)
+pub kind_passed : (b : Bool) (f g : File) (refusal : Status) → Ok f ≡ on (provided b refusal) (λ u. Ok g) → (b ≡ true) × (f ≡ g)
 kind_passed true f g refusal e = (refl, cc)
 kind_passed false f g refusal e = absurd cc
 
@@ -113,11 +105,12 @@ is_read files word name bytes kinds f g held stored e =
     subst (IsRead files name kinds) (sym is.1) (record { holds = (bytes, held, stored); kind = is.0 })
 
 read_file : (files : Files) (word : ℕ) (name : List ℕ) (kinds : List Kind) (load : Loaded) (f : File) → Brings (file_at files name) load → file_of word kinds load (Ok f) → IsRead files name kinds f
-read_file files word name kinds load f brings (Ok bytes, e, (Ok u, taken, (Ok g, stored, k))) =
+read_file files word name kinds load f brings (Ok bytes, e, (Ok g, (Ok u, base, stored), (Ok v, taken, k))) =
     is_read files word name bytes kinds f g (subst (Brings (file_at files name)) (read_is word load bytes e).0 brings) stored k
-read_file files word name kinds load f brings (Ok bytes, e, (Ok u, taken, (Err q, stored, k))) = absurd cc
-read_file files word name kinds load f brings (Ok bytes, e, (Err q, taken, k)) = absurd cc
-read_file files word name kinds load f brings (Err q, e, k) = absurd cc
+read_file files word name kinds load f brings (Ok bytes, e, (Ok g, (Err q, base, same), k)) = absurd cc
+read_file files word name kinds load f brings (Ok bytes, e, (Ok g, (Ok u, base, stored), (Err q, taken, same))) = absurd cc
+read_file files word name kinds load f brings (Ok bytes, e, (Err q, scans, same)) = absurd cc
+read_file files word name kinds load f brings (Err q, e, same) = absurd cc
 
 -- a file of which something was made that stores
 input_read : (files : Files) (name : List ℕ) (kinds : List Kind) (loads : Loads) (made : File → Result Outcome Status) (o : Outcome) → Brings (file_at files name) loads.input → of_input kinds loads made (Ok o)
@@ -127,7 +120,7 @@ input_read files name kinds loads made o brings (Err q, is, e) = absurd cc
 
 -- ---- words in form
 
-value_form : (x : Value) → IsWordValue x → HasForm x
+pub value_form : (x : Value) → IsWordValue x → HasForm x
 value_form v.null is = tt
 value_form (v.truth b) is = tt
 value_form (v.integer n) is = is

@@ -1,11 +1,10 @@
 -- What words mean over loads is one outcome.
 use Rattle.cbor_det.specs.Head.{IsBytes}
 use Rattle.outline_cmd.proofs.MeaningLaws.{read_is}
-use Rattle.outline_cmd.proofs.FileLaws.{small_takes, small_again}
+use Rattle.outline_cmd.proofs.BaseLaws.{other_base_or_not}
 use Rattle.outline_cmd.specs.OfBytes.{IsOfBytes, AreOfBytes}
-use Rattle.outline_cmd.specs.SmallFile.{small_at}
 use Rattle.outline_cmd.specs.Sample.{sampled}
-use Rattle.std.proofs.Common.{◌≡◌, ℕ, ◌<◌, ◌≤◌, ◌^◌, List, [], ◌∷◌, length, None, Result, Ok, Err, refl, sym, ap, subst, ◌∙◌, arith, Option, Some, ⊎_elim}
+use Rattle.std.proofs.Common.{◌≡◌, ℕ, ◌<◌, ◌≤◌, ◌^◌, List, [], ◌∷◌, length, None, Result, Ok, Err, refl, sym, ap, subst, ◌∙◌, arith, ⊎_elim}
 use Rattle.cbor_det.specs.Item.{Item}
 use Rattle.cbor_det.specs.Notation.{notation_lines}
 use Rattle.cbor_det.proofs.PlaceLaws.{HasFlaw-unique, flawed_or_spelled}
@@ -20,13 +19,14 @@ use Rattle.model.specs.Command.{Command, found, edit, ack, show, status, log, bu
 use Rattle.file_laws.proofs.FileLaws.{one_fault, one_file, files_have_none, file_or_fault}
 use Rattle.outline_words.specs.Table.{Order, command, play, sample}
 use Rattle.outline_words.proofs.SpellLaws.{one_order, spelled_not_wrong, one_first_wrong, spelled_or_wrong}
-use Rattle.outline_cmd.specs.declared.faults.BadFile.{BadFile}
-use Rattle.outline_cmd.specs.declared.faults.BadFile.TheVariants as bad
+use Rattle.replica.specs.FaultText.{fault_of}
+use Rattle.replica.specs.declared.fault.BadFile.{BadFile}
+use Rattle.replica.specs.declared.fault.BadFile.TheVariants as bad
 use Rattle.outline_cmd.specs.declared.status.Status.{Status}
 use Rattle.outline_cmd.specs.declared.status.Status.TheVariants as s
 use Rattle.outline_cmd.specs.Outcome.{Outcome, printed, edited, acknowledged, shown, status_text, listed, bundled, delivered, trimmed, snapped, released, begun, checked, of_kind, founded}
-use Rattle.outline_cmd.specs.Scope.{taken_bytes, taken_editor, taken_words, taken_order}
-use Rattle.outline_cmd.specs.Meaning.{Meaning, ◌>>=◌, exactly, Continues, Loaded, Loads, read, fault_of, spelled, file_of, member_files, based_files, all_files, itemized, made_of, order_made, order_meaning, said, ordered, meaning, unused, sized, answered, roles}
+use Rattle.outline_cmd.specs.Scope.{taken_base, taken_file, taken_editor, taken_words, taken_order}
+use Rattle.outline_cmd.specs.Meaning.{Meaning, ◌>>=◌, exactly, Continues, Loaded, Loads, read, spelled, scanned, opened, file_of, member_files, based_files, all_files, itemized, made_of, order_made, order_meaning, said, ordered, meaning, unused, sized, answered, roles}
 
 -- ---- meanings with one outcome
 
@@ -143,11 +143,11 @@ one_name why other e = sym (fault_again why) ∙ ap fault_named e ∙ fault_agai
 
 -- ---- files
 
-one_taken : (word : ℕ) (bytes : List ℕ) → HasOne (taken_bytes word bytes)
-one_taken word bytes (Ok u) (Ok w) p q = refl
-one_taken word bytes (Ok u) (Err q) (f, spells) (is, none) = absurd (none f spells)
-one_taken word bytes (Err p) (Ok u) (is, none) (f, spells) = absurd (none f spells)
-one_taken word bytes (Err p) (Err q) (is, none) (was, never) = cc
+one_base : (word : ℕ) (bytes : List ℕ) → HasOne (taken_base word bytes)
+one_base word bytes (Ok u) (Ok w) p q = refl
+one_base word bytes (Ok u) (Err q) none (is, other) = absurd (none other)
+one_base word bytes (Err p) (Ok u) (is, other) none = absurd (none other)
+one_base word bytes (Err p) (Err q) (is, other) (was, again) = ap Err (is ∙ sym was)
 
 short : (bytes : List ℕ) → length bytes ≤ file_limit → length bytes < 2 ^ 64
 short bytes most = let most : length bytes ≤ 16777216 = most in omega arith
@@ -161,7 +161,8 @@ one_spelled word bytes (Err p) (Err q) (why, is, fault) (other, was, same) =
 
 one_read : (word : ℕ) (kinds : List Kind) (load : Loaded) → HasOne (file_of word kinds load)
 one_read word kinds load =
-    one_then _ _ (one_exactly (read word load)) (λ bytes. one_then _ _ (one_taken word bytes) (λ u. one_then _ _ (one_spelled word bytes) (λ f. one_exactly _)))
+    one_then _ _ (one_exactly (read word load)) (λ bytes. one_then (scanned word bytes) _ (one_then _ _ (one_base word bytes) (λ u. one_spelled word bytes))
+    (λ f. one_then _ _ (one_exactly (taken_file word f)) (λ u. one_exactly _)))
 
 one_itemized : (bytes : List ℕ) → HasOne (itemized bytes)
 one_itemized bytes (Ok o) (Ok p) (xs, spells, is) (ys, again, was) =
@@ -225,9 +226,8 @@ some_read word load next (Ok bytes) e is each =
     (outcome, (Ok bytes, sym e, goes))
 some_read word load next (Err refusal) e is each = (Err refusal, (Err refusal, sym e, refl))
 
-some_taken : (word : ℕ) (bytes : List ℕ) (found : Option File) → small_at bytes ≡ found → IsBytes bytes → length bytes ≤ file_limit → HasSome (taken_bytes word bytes)
-some_taken word bytes (Some f) e is most = (Ok tt, (f, small_takes bytes f is most e))
-some_taken word bytes None e is most = (Err (s.NotBuilt word), (refl, λ f spells. let both : None ≡ Some f = sym e ∙ small_again bytes f spells in absurd cc))
+some_base : (word : ℕ) (bytes : List ℕ) → IsBytes bytes → length bytes ≤ file_limit → HasSome (taken_base word bytes)
+some_base word bytes is most = ⊎_elim (λ other. (Err (s.NotBuilt word), (refl, other))) (λ none. (Ok tt, none)) (other_base_or_not bytes is most)
 
 some_spelled : (word : ℕ) (bytes : List ℕ) → IsBytes bytes → length bytes ≤ file_limit → HasSome (spelled word bytes)
 some_spelled word bytes is most =
@@ -236,9 +236,10 @@ some_spelled word bytes is most =
 
 some_file : (word : ℕ) (kinds : List Kind) (load : Loaded) → IsOfBytes load → HasSome (file_of word kinds load)
 some_file word kinds load is =
-    some_read word load (λ bytes. taken_bytes word bytes >>= λ u. spelled word bytes >>= λ f. exactly (of_kind word kinds f)) (read word load) refl is
-    (λ bytes each most. some_then (taken_bytes word bytes) (λ u. spelled word bytes >>= λ f. exactly (of_kind word kinds f)) (some_taken word bytes (small_at bytes) refl each most)
-    (λ u. some_then (spelled word bytes) (λ f. exactly (of_kind word kinds f)) (some_spelled word bytes each most) (λ f. some_exactly (of_kind word kinds f))))
+    some_read word load (opened word kinds) (read word load) refl is
+    (λ bytes each most. some_then (scanned word bytes) (λ f. exactly (taken_file word f) >>= λ u. exactly (of_kind word kinds f))
+    (some_then (taken_base word bytes) (λ u. spelled word bytes) (some_base word bytes each most) (λ u. some_spelled word bytes each most))
+    (λ f. some_then (exactly (taken_file word f)) (λ u. exactly (of_kind word kinds f)) (some_exactly (taken_file word f)) (λ u. some_exactly (of_kind word kinds f))))
 
 some_itemized : (bytes : List ℕ) → IsBytes bytes → HasSome (itemized bytes)
 some_itemized bytes is =

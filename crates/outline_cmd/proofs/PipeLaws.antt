@@ -4,28 +4,14 @@ use Rattle.outside.specs.Seen.{Seen}
 use Rattle.outline_words.specs.Table.{Order}
 use Rattle.outline_cmd.specs.declared.answer.Answer.{Answer as AnswerStruct}
 use Rattle.outline_cmd.specs.declared.status.Status.{Status}
-use Rattle.outline_cmd.specs.Ending.{Ending, ending, done, unstored, unprinted, no_memory, refused}
 use Rattle.outline_cmd.specs.Meaning.{Meaning, ◌>>=◌, exactly, Named, roles, Loaded, Loads, input_bytes, unused, Answer, sized, order_made, order_meaning}
 use Rattle.outline_cmd.specs.Run.{AreLoads, IsLoadOf}
 use Rattle.outline_cmd.specs.Scope.{taken_order}
-use Rattle.outline_cmd.specs.Stages.{Refuses, RefusesAs, Follows, answer_of}
-use Rattle.outline_cmd.specs.Tasks.{task_made}
+use Rattle.outline_cmd.specs.Stages.{Refuses, Follows, answer_of}
+use Rattle.outline_cmd.specs.Tasks.{order_made_of}
 use Rattle.outline_cmd.proofs.LinkLaws.{made_means, refusal_means, unread_means}
 use Rattle.outline_cmd.proofs.Loads.{some_load_for, quiet_later, earlier_load}
-use Rattle.outline_cmd.proofs.StageLaws.{refuses_first, follows_next}
-
--- ---- refusals
-
-refuses_as : {A B : Type 0} (e : Ending) (first : Meaning A) (second : Meaning B) (status : Status) → (first (Err status) → second (Err status)) → RefusesAs e first status → RefusesAs e second status
-refuses_as done first second status then h = h
-refuses_as unstored first second status then h = h
-refuses_as unprinted first second status then h = h
-refuses_as no_memory first second status then h = h
-refuses_as refused first second status then h = then h
-
--- What one step refuses, another refuses that means the same.
-pub refuses_by : {A B : Type 0} (first : Meaning A) (second : Meaning B) (status : Status) → (first (Err status) → second (Err status)) → Refuses first status → Refuses second status
-refuses_by first second status then h = refuses_as (ending status) first second status then h
+use Rattle.outline_cmd.proofs.StageLaws.{refuses_first, refuses_by, follows_next}
 
 -- ---- the stages
 
@@ -53,7 +39,7 @@ input_refused old new order at load status named is refuses =
 
 -- nothing is made of it
 pub make_refused : (old new : Seen) (order : Order) (at : Option Named) (load : Loaded) (bytes : List ℕ) (status : Status) → at ≡ (roles order).input → taken_order order ≡ Ok tt
-    → IsLoadOf old new at load → Ok bytes ≡ input_bytes at load → Refuses (task_made order bytes) status → IsMeant old new order (Err status)
+    → IsLoadOf old new at load → Ok bytes ≡ input_bytes at load → Refuses (order_made_of order bytes) status → IsMeant old new order (Err status)
 make_refused old new order at load bytes status named taken is read refuses =
     let other = some_load_for old new (roles order).second in
     let new_load = some_load_for old new (roles order).new in
@@ -62,7 +48,7 @@ make_refused old new order at load bytes status named taken is read refuses =
       loads,
       record { input = subst (λ (n : Option Named). IsLoadOf old new n load) named is; second = other.1; new_file = new_load.1 },
       refuses_first (order_made loads order) _ status
-          (refuses_by (task_made order bytes) (order_made loads order) status (λ (e : task_made order bytes (Err status)). refusal_means order loads bytes reads taken status e) refuses),
+          (refuses_by (order_made_of order bytes) (order_made loads order) status (λ (e : order_made_of order bytes (Err status)). refusal_means order loads bytes reads taken status e) refuses),
     )
 
 -- What is left of a command behind what it makes.
@@ -71,7 +57,7 @@ ends_with at load a = exactly (unused at load) >>= λ u. exactly (sized a)
 
 -- its answer is made, and its new name and the size of its file are looked at
 pub made_ends : (old mid new : Seen) (order : Order) (at at2 : Option Named) (load load2 : Loaded) (bytes : List ℕ) (a : Answer) (result : Result AnswerStruct Status)
-    → at ≡ (roles order).input → at2 ≡ (roles order).new → taken_order order ≡ Ok tt → IsLoadOf old mid at load → Ok bytes ≡ input_bytes at load → task_made order bytes (Ok a)
+    → at ≡ (roles order).input → at2 ≡ (roles order).new → taken_order order ≡ Ok tt → IsLoadOf old mid at load → Ok bytes ≡ input_bytes at load → order_made_of order bytes (Ok a)
     → IsLoadOf mid new at2 load2 → mid.files ≡ old.files → old.load_faults ≤ mid.load_faults → mid.last_failed ≡ old.last_failed → Follows answer_of result (ends_with at2 load2 a) → IsMeant old new order result
 made_ends old mid new order at at2 load load2 bytes a result named named2 taken is read made is2 files count name follows =
     let other = some_load_for old new (roles order).second in

@@ -7,13 +7,17 @@ use Rattle.outline_cmd.specs.declared.edit.EditWords.TheVariants as w
 use Rattle.outline_cmd.specs.declared.scope.Task.{Task}
 use Rattle.outline_cmd.specs.declared.scope.Task.TheVariants as t
 use Rattle.outline_cmd.specs.Scope.{taken_edit, taken_order}
-use Rattle.outline_cmd.specs.Tasks.{SaysEdit, Does}
+use Rattle.outline_cmd.specs.Tasks.{SaysEdit, Tells, Does}
 
-edit_taken : (words : EditWords) (e : Edit) → SaysEdit words e → taken_edit e ≡ Ok tt
-edit_taken (w.Put key value) e (said, says, is, same) = rw same refl
+pub edit_taken : (words : EditWords) (e : Edit) → SaysEdit words e → taken_edit e ≡ Ok tt
+edit_taken (w.Put key value) e (said, says, same) = rw same refl
 edit_taken (w.Unset key) e same = rw same refl
 
+tells_taken : (task : Task) (order : Order) → Tells task order → taken_order order ≡ Ok tt
+tells_taken (t.Found document members name) order same = rw same refl
+tells_taken (t.Edit name words) order (e, says, same) = rw same (edit_taken words e says)
+tells_taken (t.Show name) order same = rw same refl
+tells_taken (t.Items name) order same = rw same refl
+
 pub does_taken : (task : Task) (order : Order) → Does task order → taken_order order ≡ Ok tt
-does_taken (t.Found document members name) order (same, some) = rw same refl
-does_taken (t.Edit name words) order (e, says, same) = rw same (edit_taken words e says)
-does_taken (t.Show name) order same = rw same refl
+does_taken task order does = tells_taken task order does.tells

@@ -9,14 +9,10 @@ pub mod Run
 pub mod Ledgers
 pub mod OfBytes
 pub mod Script
-pub mod Puts
 pub mod Tasks
+pub mod Opened
+pub mod Edits
 pub mod Stages
 pub mod Input
 pub mod Front
 pub mod Document
-pub mod Grammar
-pub mod SmallFile
-pub mod Represents
-pub mod Edits
-pub mod Empty

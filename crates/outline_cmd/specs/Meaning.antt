@@ -6,19 +6,18 @@ use Rattle.cbor_det.specs.Item.{Item, Spells}
 use Rattle.cbor_det.specs.Flaw.{HasFlaw}
 use Rattle.cbor_det.specs.Notation.{notation_lines}
 use Rattle.cbor_det.specs.declared.fault.CborFault.{CborFault}
-use Rattle.op_grammar.specs.Rules.{rule_of}
-use Rattle.model.specs.File as model
-use Rattle.model.specs.File.{File, Kind, member_file, bundle, snapshot, spell_file, file_limit, FileFault, HasFault}
+use Rattle.model.specs.File.{File, Kind, member_file, bundle, snapshot, spell_file, file_limit, HasFault}
 use Rattle.model.specs.Stands.{IsStored}
 use Rattle.model.specs.Command.{Command, found, edit, ack, show, status, log, bundle_since, deliver, trim, snapshot_of, release, begin_from, check, items}
 use Rattle.outline_words.specs.Table.{Order, command, play, sample, Spell, FirstWrong}
-use Rattle.outline_cmd.specs.declared.faults.BadFile.{BadFile}
-use Rattle.outline_cmd.specs.declared.faults.BadFile.TheVariants as bad
+use Rattle.replica.specs.FaultText.{fault_of}
+use Rattle.replica.specs.declared.fault.BadFile.{BadFile}
+use Rattle.replica.specs.declared.fault.BadFile.TheVariants as bad
 use Rattle.outline_cmd.specs.declared.status.Status.{Status}
 use Rattle.outline_cmd.specs.declared.status.Status.TheVariants as s
 use Rattle.outline_cmd.specs.Outcome.{Outcome, printed, of_kind, founded, edited, acknowledged, shown, status_text, listed, bundled, delivered, trimmed, snapped, released, begun, checked}
 use Rattle.outline_cmd.specs.Sample.{sampled}
-use Rattle.outline_cmd.specs.Scope.{taken_words, taken_order, taken_bytes, taken_editor}
+use Rattle.outline_cmd.specs.Scope.{taken_words, taken_order, taken_base, taken_file, taken_editor}
 
 -- ---- meanings
 
@@ -118,24 +117,29 @@ unused (Some at) missing = Ok tt
 unused (Some at) failed = Err (s.ReadFault at.0)
 unused (Some at) (whole bytes) = Err (s.Exists at.0)
 
--- the fault of a file, as the definitions say it
-abbrev pub fault_of : BadFile → FileFault
-fault_of (bad.Cbor fault) = model.encoding fault
-fault_of (bad.Rule item rule) = model.breaks item (rule_of rule)
-fault_of (bad.Trailing at) = model.trailing at
-
 -- The file value that bytes spell, or their first fault.
 abbrev pub spelled : ℕ → List ℕ → Meaning File
 spelled word bytes (Ok f) = IsStored bytes f
 spelled word bytes (Err refusal) = (why : BadFile) × (refusal ≡ s.BadFile word why) × HasFault bytes (fault_of why)
 
+-- The same, where its base is taken.
+abbrev pub scanned : ℕ → List ℕ → Meaning File
+scanned word bytes = do
+  u ← taken_base word bytes
+  spelled word bytes
+
+-- The file that bytes spell, of a kind that is taken.
+abbrev pub opened : ℕ → List Kind → List ℕ → Meaning File
+opened word kinds bytes = do
+  f ← scanned word bytes
+  u ← exactly (taken_file word f)
+  exactly (of_kind word kinds f)
+
 -- The file that a word names, of a kind that is taken.
 abbrev pub file_of : ℕ → List Kind → Loaded → Meaning File
 file_of word kinds load = do
   bytes ← exactly (read word load)
-  u ← taken_bytes word bytes
-  f ← spelled word bytes
-  exactly (of_kind word kinds f)
+  opened word kinds bytes
 
 -- the items that bytes spell, a line for each, or the flaw of the bytes
 abbrev pub itemized : List ℕ → Meaning Outcome

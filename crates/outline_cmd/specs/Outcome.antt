@@ -14,12 +14,12 @@ use Rattle.model.specs.Command.{Unmade, nobody, wrong, clock_full, made_edit, ma
 use Rattle.model.specs.Reading.{base_in, held_in, state_in, unfit_in, vector_in, horizon_in, with_changes, settled_in, with_settled, trimmed_in, snapshot_in}
 use Rattle.model.specs.View.{view}
 use Rattle.model.specs.Text.{field, hex, numbers_text, show_text, holds_line, made_line, trimmed_line, log_text, report_text}
-use Rattle.outline_cmd.specs.declared.faults.DocRef.{DocRef}
-use Rattle.outline_cmd.specs.declared.faults.MemberFault.TheVariants.{NoMember, NotHeld, Held, Nobody}
+use Rattle.replica.specs.declared.head.DocRef.{DocRef}
+use Rattle.replica.specs.declared.fault.MemberFault.TheVariants.{NoMember, NotHeld, Held, Nobody}
 use Rattle.outline_cmd.specs.declared.faults.EditFault.{EditFault}
 use Rattle.outline_cmd.specs.declared.faults.EditFault.TheVariants.{NoNode, NoIndex, Cycle, Fixed, NoChars, Empty, TooLong}
-use Rattle.outline_cmd.specs.declared.faults.Misfit.{Misfit}
-use Rattle.outline_cmd.specs.declared.faults.Misfit.TheVariants.{A0, A1, A2, A3, A4}
+use Rattle.replica.specs.declared.fault.Misfit.{Misfit}
+use Rattle.replica.specs.declared.fault.Misfit.TheVariants.{A0, A1, A2, A3, A4}
 use Rattle.outline_cmd.specs.declared.status.Status.{Status}
 use Rattle.outline_cmd.specs.declared.status.Status.TheVariants as s
 

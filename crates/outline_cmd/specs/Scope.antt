@@ -1,13 +1,14 @@
 -- What this version takes. Everything else is answered by NotBuilt, and stands here alone.
-use Rattle.std.specs.Prelude.{◌≡◌, ◌≢◌, ◌≤◌, ℕ, ◌==◌, Bool, false, not, List, [], ◌∷◌, codes, length, Some, Result, Ok, Err, bytes_eq, slice_index}
-use Rattle.std.specs.List.{AllByRecursion, list_any, list_all}
+use Rattle.std.specs.Prelude.{◌≡◌, ℕ, ◌==◌, ◌&&◌, ◌||◌, Bool, false, not, List, [], ◌∷◌, codes, length, Result, Ok, Err, bytes_eq, slice_index}
+use Rattle.std.specs.List.{list_any, list_all}
 use Rattle.op_ids.specs.Order.{root_id, id_eq}
 use Rattle.model.specs.Operation.{Operation, put_key}
 use Rattle.model.specs.Change.{Change}
-use Rattle.model.specs.Base.{base_of}
-use Rattle.model.specs.File.{File, member_file, IsFile, spell_file, file_limit}
+use Rattle.model.specs.Base.{members}
+use Rattle.model.specs.File.{File, Kind, bundle}
 use Rattle.model.specs.Edit.{Edit, put_value, unset_key}
-use Rattle.model.specs.Command.{found, edit, show}
+use Rattle.model.specs.Command.{found, edit, show, items}
+use Rattle.replica.specs.Scanning.{HasOtherBase}
 use Rattle.outline_words.specs.Table.{Order, command}
 use Rattle.outline_cmd.specs.Outcome.{provided}
 use Rattle.outline_cmd.specs.declared.status.Status.{Status}
@@ -20,7 +21,7 @@ abbrev pub untaken_names : List (List ℕ)
 untaken_names =
     codes "new" ∷ codes "move" ∷ codes "trash" ∷ codes "type" ∷ codes "erase" ∷ codes "add" ∷ codes "shift" ∷ codes "set" ∷ codes "drop" ∷ codes "ack"
     ∷ codes "status" ∷ codes "log" ∷ codes "bundle" ∷ codes "deliver" ∷ codes "trim" ∷ codes "snapshot" ∷ codes "release" ∷ codes "begin" ∷ codes "check"
-    ∷ codes "items" ∷ codes "play" ∷ codes "sample" ∷ []
+    ∷ codes "play" ∷ codes "sample" ∷ []
 
 abbrev pub is_one_of : List (List ℕ) → List ℕ → Bool
 is_one_of names word = list_any (bytes_eq word) names
@@ -43,39 +44,41 @@ abbrev pub taken_order : Order → Result Unit Status
 taken_order (command (found document n name)) = Ok tt
 taken_order (command (edit name e)) = taken_edit e
 taken_order (command (show name)) = Ok tt
+taken_order (command (items name)) = Ok tt
 taken_order _ = Err (NotBuilt 0)
 
 -- ---- files
 
--- a change of this member, who knows of no other's
-pub record IsOf (member : ℕ) (c : Change) : Type 0 where
-  pub maker : c.member ≡ member
-  pub others : (k : ℕ) → k ≢ member → slice_index c.causes k ≡ 0
+-- An item other than the empty base, where a file has its base, isn't looked at.
+abbrev pub taken_base : ℕ → List ℕ → Result Unit Status → Type 0
+taken_base word bytes (Ok u) = HasOtherBase bytes → ⊥
+taken_base word bytes (Err refusal) = (refusal ≡ NotBuilt word) × HasOtherBase bytes
 
-abbrev pub PutsOnRoot : Operation → Type 0
-PutsOnRoot (put_key node key value) = node ≡ root_id
-PutsOnRoot _ = ⊥
+-- a put on the root
+abbrev pub taken_operation : Operation → Bool
+taken_operation (put_key node key value) = id_eq node root_id
+taken_operation _ = false
 
--- A small file: a member file from which nothing was trimmed and in which nothing waits. Its changes are all of one member, who knows
--- of no other's, and put values on the root alone.
-pub record IsSmall (f : File) : Type 0 where
-  pub is_file : IsFile f
-  pub kind : f.kind ≡ member_file
-  pub untrimmed : f.base ≡ Some (base_of f.members [] 0)
-  pub none_waits : f.waiting ≡ []
-  pub maker : (member : ℕ) × AllByRecursion (IsOf member) f.kept
-  pub on_root : AllByRecursion (λ c. AllByRecursion PutsOnRoot c.operations) f.kept
+-- a change of this member, who knows of no other's, of operations that are taken
+abbrev pub taken_change : ℕ → Change → Bool
+taken_change m c = c.member == m && (list_all (λ k. k == m || slice_index c.causes k == 0) (members (length c.causes)) && list_all taken_operation c.operations)
 
--- The bytes are the one spelling of the small file, and are no more than a file may have.
-pub record SpellsSmall (bytes : List ℕ) (f : File) : Type 0 where
-  pub is_small : IsSmall f
-  pub whole : bytes ≡ spell_file f
-  pub most : length bytes ≤ file_limit
+-- who made the first of these
+abbrev pub first_maker : List Change → ℕ
+first_maker [] = 0
+first_maker (c ∷ cs) = c.member
 
--- The bytes of a file, which a word names, spell a small one.
-abbrev pub taken_bytes : ℕ → List ℕ → Result Unit Status → Type 0
-taken_bytes word bytes (Ok u) = (f : File) × SpellsSmall bytes f
-taken_bytes word bytes (Err refusal) = (refusal ≡ NotBuilt word) × ((f : File) → SpellsSmall bytes f → ⊥)
+-- No change waits, and those that are kept are all of one member.
+abbrev pub is_taken : File → Bool
+is_taken f = length f.waiting == 0 && list_all (taken_change (first_maker f.kept)) f.kept
+
+abbrev pub taken_as : Kind → ℕ → File → Result Unit Status
+taken_as bundle word f = Ok tt
+taken_as _ word f = provided (is_taken f) (NotBuilt word)
+
+-- The file that a word names. A bundle is taken, whatever it carries.
+abbrev pub taken_file : ℕ → File → Result Unit Status
+taken_file word f = taken_as f.kind word f
 
 -- The least member that a file holds, who edits it, is the one who made its changes.
 abbrev pub taken_editor : List ℕ → List Change → Result Unit Status

@@ -5,6 +5,7 @@ use Rattle.outline_words.specs.Table.{Order, play, Spell, FirstWrong}
 use Rattle.outline_cmd.specs.declared.status.Status.{Status}
 use Rattle.outline_cmd.specs.declared.status.Status.TheVariants as s
 use Rattle.outline_cmd.specs.Meaning.{Loads, read, reads}
+use Rattle.outline_cmd.specs.Ledgers.{IsDone}
 use Rattle.outline_cmd.specs.Run.{Outside, AreLoads, Printed, Later, Runs}
 
 -- ---- lines
@@ -107,5 +108,5 @@ pub record PlaysScript (status : Status) (name : List ℕ) (before after : Outsi
 -- read is refused as any file is.
 abbrev pub Ran : Status → List (List ℕ) → Outside → Outside → Type 0
 Ran status words before after =
-    (Runs status 0 words before after × (status ≡ s.Done → (name : List ℕ) → Spell words (play name) → ⊥))
+    (Runs status 0 words before after × (IsDone status → (name : List ℕ) → Spell words (play name) → ⊥))
     ⊎ ((name : List ℕ) × Spell words (play name) × PlaysScript status name before after)

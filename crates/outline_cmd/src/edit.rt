@@ -1,42 +1,46 @@
 //! Edits: the change that a member makes, and the file with it.
 
-ghost use Rattle.std.specs.Prelude.{◌≡◌, ℕ, ◌≤◌, ◌<◌, List, [], ◌∷◌, length, Ok, IfOk, IfErr};
+ghost use Rattle.std.specs.Prelude.{◌≡◌, ◌==◌, ◌≤◌, ◌<◌, ◌++◌, List, ℕ, length, Ok, IfOk, IfErr, OnOk, IsUtf8};
+ghost use Rattle.std.specs.List.{list_all};
 ghost use Rattle.cbor_det.specs.Head.{IsBytes};
-ghost use Rattle.op_ids.specs.Order.{root_id};
-ghost use Rattle.model.specs.Operation.{Operation, put_key};
+ghost use Rattle.cbor_det.specs.Item.{spell};
+ghost use Rattle.model.specs.Operation.{Operation};
 ghost use Rattle.model.specs.Value.{Value as TheValue};
 ghost use Rattle.model.specs.Edit.{Edit, value_len};
-ghost use Rattle.outline_words.specs.Commands.{SaysValue};
-ghost use Rattle.outline_words.specs.Forms.{IsWordValue};
-ghost use Rattle.outline_cmd.specs.Tasks.{SaysEdit, edit_made};
-ghost use Rattle.model.specs.File.{File, file_limit, spell_file};
-ghost use Rattle.outline_cmd.specs.Scope.{IsSmall};
-ghost use Rattle.outline_cmd.specs.Puts.{with_change};
-ghost use Rattle.op_grammar.specs.Values.{value_of};
+ghost use Rattle.model.specs.Change.{Change, IsChange, change_item};
+ghost use Rattle.model.specs.Command.{edit as edits_file};
+ghost use Rattle.model.specs.File.{file_limit, spell_file};
 ghost use Rattle.model.specs.Text.{hex};
-ghost use Rattle.op_grammar.specs.Changes.{change_of};
-ghost use Rattle.outline_cmd.specs.Edits.{HeadsOne};
+ghost use Rattle.op_grammar.specs.Changes.{change_of, head_of};
+ghost use Rattle.op_grammar.specs.Values.{value_of};
+ghost use Rattle.outline_words.specs.Commands.{SaysValue, IsWordEdit};
+ghost use Rattle.outline_words.specs.Forms.{IsWordValue};
+ghost use Rattle.outline_words.specs.Table.{command};
+ghost use Rattle.outline_cmd.specs.Tasks.{SaysEdit, order_made_of};
+ghost use Rattle.outline_cmd.specs.Edits.{with_change, editor_among, checked_put, clocked_in, root_put as put_of, put_in, edited_in, MakesFile};
+ghost use Rattle.outline_cmd.specs.Opened.{IsTaken};
 ghost use Rattle.outline_cmd.specs.Meaning.{exactly};
-ghost use Rattle.outline_cmd.specs.Puts.{editor_among, checked_put, clocked_in, put_in, put_from};
-ghost use Rattle.outline_cmd.specs.Represents.{Represents};
 ghost use Rattle.outline_cmd.specs.Stages.{answer_of, Follows};
 ghost use Rattle.outline_cmd.specs.declared.status.Status.TheVariants.{NoMemory};
 
 use crate::answer::{Answer, Store};
-use crate::faults::{EditFault, MemberFault};
-use crate::input::small_file;
-use crate::operations::{MAX_KEY_LEN, MAX_VALUE_LEN};
+use crate::faults::EditFault;
+use crate::opened::{Opened, open};
 use crate::outline_show::made_text;
-use crate::put_change::append_put;
-use crate::replica::MAX_KEPT;
-use crate::small_file::SmallFile;
 use crate::status::Status;
-use cbor_det::put_uint;
-use op_grammar::{Head, Value};
-use op_ids::MAX_TIME;
+use cbor_det::OwnBytes;
+use lazy_blocks::Block;
+use op_grammar::{Head, OpPlan, OpRef, Value, WriteFault, write_change};
+use op_ids::{MAX_TIME, ROOT};
 use outline_words::WordValue;
-use std::alloc::{AllocError, Global};
-use version_vector::Vector;
+use replica::{FileParts, MEMBER_FILE, MemberFault, write_parts};
+use std::alloc::Global;
+
+/// How many bytes a key has at most.
+const MAX_KEY_LEN: usize = 256;
+
+/// How many bytes a text or a byte string has at most, as a value.
+const MAX_VALUE_LEN: usize = 65_536;
 
 /// An edit of the root, as words give it.
 #[derive(Clone, Copy)]
@@ -45,18 +49,33 @@ pub(crate) enum EditWords<'w> {
     Unset { key: &'w str },
 }
 
-/// The member who edits a file: the least that it holds, if the changes that it keeps are of this member.
-fn editor(file: &SmallFile<'_>) -> Result<u8, Status>
-    ensures told { (f : File) → IsSmall f → Represents file.now f
-        → Follows (λ m. m) result (exactly (editor_among f.mine f.kept)) }
-    ensures within { IfOk result (λ m. m < file.now.members) }
+/// Whether all changes that a file keeps are of this member.
+fn made_all(parts: &FileParts<'_>, member: u8) -> bool
+    ensures { result ≡ list_all (λ c. c.member == member) parts.now.kept }
 {
-    let Some(member) = file.least else {
+    let kept = parts.kept();
+    'kept: for i in 0..kept.len() {
+        if kept.at(i).head().member != member {
+            return false;
+        }
+    }
+    true
+}
+
+/// The member who edits a file: the least that it holds, if the changes that it keeps are of this member.
+fn editor(parts: &FileParts<'_>) -> Result<u8, Status>
+    ensures told { Follows (λ m. m) result (exactly (editor_among parts.now.mine parts.now.kept)) }
+    ensures within { IfOk result (λ m. m < parts.now.members) }
+{
+    let mine = &parts.head().mine;
+    if mine.len() == 0 {
         return Err(Status::Member(MemberFault::Nobody));
-    };
-    match file.last.member {
-        Some(maker) if maker != u64::from(member) => Err(Status::NotBuilt { word: 1 }),
-        _ => Ok(member),
+    }
+    let member = *mine.at(0);
+    if made_all(parts, member) {
+        Ok(member)
+    } else {
+        Err(Status::NotBuilt { word: 1 })
     }
 }
 
@@ -96,73 +115,114 @@ fn check_put(key: &str, value: Value<'_>) -> Result<(), Status>
     Ok(())
 }
 
-/// What the next change of a member says, which has one operation. The member has made all changes of the file.
-fn next_head(alloc: Global, file: &SmallFile<'_>, member: u8) -> Result<Head, Status>
-    requires { member < file.now.members }
-    ensures told { (f : File) (os : List Operation) → IsSmall f → Represents file.now f
-        → editor_among f.mine f.kept ≡ Ok member
-        → Follows (λ head. change_of head os) result (exactly (clocked_in f member os)) }
-    ensures keeps { IfOk result (λ head. HeadsOne head file.now.members member) }
+/// What the next change of a member says, which has one operation.
+fn next_head(alloc: Global, parts: &FileParts<'_>, member: u8) -> Result<Head, Status>
+    requires within { member < parts.now.members }
+    requires taken { IsTaken parts.now }
+    ensures told { (operations : List Operation)
+        → Follows (λ head. change_of head operations) result (exactly (clocked_in parts.now member operations)) }
+    ensures heads { (key : List ℕ) (value : TheValue) → IfOk result (λ head. head ≡ head_of (change_of head (put_of key value))) }
 {
-    let last = file.last;
-    if last.time == MAX_TIME || last.number == MAX_KEPT {
+    let time = parts.last_time();
+    let causes = parts.counts(alloc);
+    let number = causes.get(member);
+    if time >= MAX_TIME || number == u32::MAX {
         return Err(Status::ClockFull {
-            time: last.time,
+            time,
             member,
-            number: last.number as u32,
+            number,
         });
     }
-    let mut causes = Vector::zero(alloc, file.members);
-    causes.raise(member, last.number as u32);
     Ok(Head {
         member,
-        number: last.number as u32 + 1,
-        time: last.time + 1,
+        number: number + 1,
+        time: time + 1,
         causes,
         count: 1,
         width: 1,
     })
 }
 
-/// The bytes of a file with one more change, which puts a value on the root.
-fn with_put(
+/// Appends the change with this head that puts a value under a key of the root.
+fn write_put(
     alloc: Global,
-    file: &SmallFile<'_>,
+    out: &mut Vec<u8>,
     head: &Head,
     key: &str,
     value: Value<'_>,
-) -> Result<Vec<u8>, AllocError>
-    requires one { head.now.count ≡ 1 }
-    requires narrow { head.now.width ≡ 1 }
-    ensures { (f : File) → IsSmall f → Represents file.now f → IfOk result (λ bytes. bytes.items
-        ≡ spell_file (with_change f (change_of head.now (put_key root_id key.now (value_of value.entry) ∷ [])))) }
+) -> Result<(), Status>
+    requires few { length head.now.causes ≤ 32 }
+    requires heads { head.now ≡ head_of (change_of head.now (put_of key.now (value_of value))) }
+    requires change { IsChange (length head.now.causes) (change_of head.now (put_of key.now (value_of value))) }
+    ensures ok { OnOk result (out.new.items ≡ out.old.items
+        ++ spell (change_item (change_of head.now (put_of key.now (value_of value.entry))))) }
+    ensures err { IfErr result (λ status. status ≡ NoMemory) }
 {
-    let mut bytes = Vec::new(alloc);
-    bytes.reserve(file.front.len() + file.rest.len())?;
-    bytes.extend_from_slice(file.front)?;
-    put_uint(&mut bytes, file.last.number + 1)?;
-    put_uint(&mut bytes, 0)?;
-    bytes.extend_from_slice(file.rest)?;
-    append_put(alloc, &mut bytes, head, key, value)?;
+    let mut plan = OpPlan::new(alloc);
+    plan.push(OpRef::PutKey {
+        node: ROOT,
+        key,
+        value,
+    })?;
+    match write_change(out, head, &plan) {
+        Ok(()) => Ok(()),
+        Err(WriteFault::NoMemory) => Err(Status::NoMemory),
+        Err(WriteFault::Rule(_)) => unreachable!(),
+    }
+}
+
+/// The change that was written.
+fn written<'a>(alloc: Global, span: &'a [u8], members: u8) -> Block<'a>
+    requires some { 0 < members }
+    requires few { members ≤ 32 }
+    requires change { (c : Change) × IsChange members c × (span.now ≡ spell (change_item c)) }
+    ensures { (c : Change) → IsChange members c → span.now ≡ spell (change_item c) → result ≡ c }
+{
+    match Block::check(alloc, span, members) {
+        Ok(block) => block,
+        Err(_) => unreachable!(),
+    }
+}
+
+/// The bytes of a file with one more change, which puts a value on the root.
+fn with_put(
+    alloc: Global,
+    parts: FileParts<'_>,
+    head: &Head,
+    key: &str,
+    value: Value<'_>,
+) -> Result<OwnBytes, Status>
+    requires { MakesFile parts head.now key.now (value_of value) }
+    ensures ok { IfOk result (λ bytes. bytes ≡ spell_file (with_change parts.entry (change_of head.now (put_of key.now (value_of value.entry))))) }
+    ensures err { IfErr result (λ status. status ≡ NoMemory) }
+{
+    let members = parts.head().doc.n;
+    let mut room = Vec::new(alloc);
+    write_put(alloc, &mut room, head, key, value)?;
+    let block = written(alloc, &room, members);
+    let parts = parts.keep(block)?;
+    let bytes = write_parts(alloc, &parts)?;
     Ok(bytes)
 }
 
 /// The answer of a put on the root of a file.
 fn add_put<'w>(
     alloc: Global,
-    file: &SmallFile<'_>,
+    parts: FileParts<'_>,
     name: &'w str,
     key: &str,
     value: Value<'_>,
 ) -> Result<Answer<'w>, Status>
-    ensures { (f : File) → IsSmall f → Represents file.now f → Follows answer_of result
-        (put_in name.now f key.now (value_of value.entry)) }
+    requires taken { IsTaken parts }
+    requires key { IsUtf8 key.now }
+    requires value { IsWordValue (value_of value) }
+    ensures { Follows answer_of result (put_in name.now parts.entry key.now (value_of value.entry)) }
 {
-    let member = editor(file)?;
+    let member = editor(&parts)?;
     check_put(key, value)?;
-    let head = next_head(alloc, file, member)?;
-    let bytes = with_put(alloc, file, &head, key, value)?;
+    let head = next_head(alloc, &parts, member)?;
     let text = made_text(alloc, &head)?;
+    let bytes = with_put(alloc, parts, &head, key, value)?;
     Ok(Answer {
         text,
         store: Some(Store {
@@ -171,21 +231,6 @@ fn add_put<'w>(
             bytes,
         }),
     })
-}
-
-/// The answer of a put on the root of the file that the bytes spell.
-fn put_on_root<'w>(
-    alloc: Global,
-    bytes: &[u8],
-    name: &'w str,
-    key: &str,
-    value: Value<'_>,
-) -> Result<Answer<'w>, Status>
-    requires { length bytes.now ≤ file_limit }
-    ensures { Follows answer_of result (put_from name.now bytes.now key.now (value_of value.entry)) }
-{
-    let file = small_file(alloc, 1, bytes)?;
-    add_put(alloc, &file, name, key, value)
 }
 
 /// The bytes that lower-case hexadecimal digits say.
@@ -199,24 +244,43 @@ pub(crate) fn decoded(alloc: Global, digits: &str) -> Result<Vec<u8>, Status>
     hex::decode(alloc, digits).map_err(|_| Status::NoMemory)
 }
 
-/// The answer of a put on the root of the file that the bytes spell, of the value that a word gives.
+/// The answer of a put on the root of a file, of the value that a word gives.
 fn put_word<'w>(
     alloc: Global,
-    bytes: &[u8],
+    parts: FileParts<'_>,
     name: &'w str,
     key: &str,
     value: WordValue<'_>,
 ) -> Result<Answer<'w>, Status>
-    requires { length bytes.now ≤ file_limit }
+    requires taken { IsTaken parts }
+    requires key { IsUtf8 key.now }
+    requires said { (said : TheValue) × SaysValue value said × IsWordValue said }
     ensures { (said : TheValue) → SaysValue value.entry said → IsWordValue said
-        → Follows answer_of result (put_from name.now bytes.now key.now said) }
+        → Follows answer_of result (put_in name.now parts.entry key.now said) }
 {
     match value {
-        WordValue::Plain(value) => put_on_root(alloc, bytes, name, key, value),
+        WordValue::Plain(value) => add_put(alloc, parts, name, key, value),
         WordValue::Digits(digits) => {
             let value = decoded(alloc, digits)?;
-            put_on_root(alloc, bytes, name, key, Value::Bytes(&value))
+            add_put(alloc, parts, name, key, Value::Bytes(&value))
         }
+    }
+}
+
+/// The answer of an edit of the root of a file.
+fn edit_parts<'w>(
+    alloc: Global,
+    parts: FileParts<'_>,
+    name: &'w str,
+    edit: EditWords<'_>,
+) -> Result<Answer<'w>, Status>
+    requires taken { IsTaken parts }
+    requires said { (e : Edit) × SaysEdit edit e × IsWordEdit e }
+    ensures { (e : Edit) → SaysEdit edit.entry e → IsWordEdit e → Follows answer_of result (edited_in name.now parts.entry e) }
+{
+    match edit {
+        EditWords::Put { key, value } => put_word(alloc, parts, name, key, value),
+        EditWords::Unset { key } => add_put(alloc, parts, name, key, Value::Null),
     }
 }
 
@@ -227,11 +291,11 @@ pub(crate) fn edit_file<'w>(
     name: &'w str,
     edit: EditWords<'_>,
 ) -> Result<Answer<'w>, Status>
-    requires { length bytes.now ≤ file_limit }
-    ensures { (e : Edit) → SaysEdit edit.entry e → Follows answer_of result (edit_made name.now e bytes.now) }
+    requires short { length bytes.now ≤ file_limit }
+    requires said { (e : Edit) × SaysEdit edit e × IsWordEdit e }
+    ensures { (e : Edit) → SaysEdit edit.entry e → IsWordEdit e
+        → Follows answer_of result (order_made_of (command (edits_file name.now e)) bytes.now) }
 {
-    match edit {
-        EditWords::Put { key, value } => put_word(alloc, bytes, name, key, value),
-        EditWords::Unset { key } => put_on_root(alloc, bytes, name, key, Value::Null),
-    }
+    let Opened { parts, document: _ } = open(alloc, 1, bytes, &[MEMBER_FILE])?;
+    edit_parts(alloc, parts, name, edit)
 }

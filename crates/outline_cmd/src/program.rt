@@ -5,17 +5,14 @@ ghost use Rattle.outside.specs.Files.{Files, file_at};
 ghost use Rattle.outside.specs.Keeper.{OnlyLoaded};
 ghost use Rattle.outside.specs.Seen.{seen_by};
 ghost use Rattle.model.specs.Change.{Change};
-ghost use Rattle.model.specs.Base.{members as members_of};
-ghost use Rattle.model.specs.Command.{Command as TheCommand, show as shows_name, new_file as made_file};
-ghost use Rattle.model.specs.Text.{holds_line};
+ghost use Rattle.model.specs.Command.{Command as TheCommand, found as founds, show as shows_name, items as lists_items};
 ghost use Rattle.model.specs.File.{file_limit};
 ghost use Rattle.model.specs.Stands.{Ledgers, AllStand};
 ghost use Rattle.outline_words.specs.Table.{Order, command as ordering, Spell};
 ghost use Rattle.outline_cmd.specs.Ending.{ending, refused};
 ghost use Rattle.outline_cmd.specs.Ledgers.{ShowsFile, ShowsLedger, KeepsLedgers, IsDone};
-ghost use Rattle.outline_cmd.specs.Meaning.{Loads, roles, exactly, ordered, order_meaning};
-ghost use Rattle.outline_cmd.specs.Puts.{storing, shown_from};
-ghost use Rattle.outline_cmd.specs.Tasks.{Does, task_made};
+ghost use Rattle.outline_cmd.specs.Meaning.{Loads, roles, ordered, order_meaning};
+ghost use Rattle.outline_cmd.specs.Tasks.{Does, order_made_of};
 ghost use Rattle.outline_cmd.specs.Run.{AreLoads, Runs, given_by, outside_by};
 ghost use Rattle.outline_cmd.specs.Stages.{Follows, answer_of};
 ghost use Rattle.outline_cmd.specs.declared.status.Status.{Status as TheStatus};
@@ -23,36 +20,63 @@ ghost use Rattle.outline_cmd.specs.declared.status.Status.TheVariants.{Done};
 
 use crate::answer::{Answer, Store, check_size, finish};
 use crate::edit::edit_file;
-use crate::found::new_file;
-use crate::input::{check_unused, load_input, small_file};
+use crate::input::{check_unused, load_input};
+use crate::opened::open;
 use crate::outline_show::{holds_text, show_text};
 use crate::scope::{Task, names_untaken, take};
 use crate::status::Status;
+use cbor_det::{DiagnosticFault, diagnostic};
 use outline_words::{Words, read_words};
 use outside::{Keeper, Sink, Tally};
+use replica::{BadFile, DocRef, MEMBER_FILE, SNAPSHOT, found as first_file};
 use std::alloc::Global;
+
+/// The kinds of files that have a base.
+const BASED_FILES: [u8; 2] = [MEMBER_FILE, SNAPSHOT];
 
 /// The answer of `show` over the bytes of a file.
 fn show<'w>(alloc: Global, bytes: &[u8]) -> Result<Answer<'w>, Status>
     requires { length bytes.now ≤ file_limit }
-    ensures { Follows answer_of result (shown_from bytes.now) }
+    ensures { (name : List ℕ) → Follows answer_of result (order_made_of (ordering (shows_name name)) bytes.now) }
 {
-    let file = small_file(alloc, 1, bytes)?;
+    let file = open(alloc, 1, bytes, &BASED_FILES)?;
     let text = show_text(alloc, file.document)?;
     Ok(Answer { text, store: None })
+}
+
+/// The answer of `items` over the bytes of a file.
+fn items<'w>(alloc: Global, bytes: &[u8]) -> Result<Answer<'w>, Status>
+    requires { length bytes.now ≤ file_limit }
+    ensures { (name : List ℕ) → Follows answer_of result (order_made_of (ordering (lists_items name)) bytes.now) }
+{
+    match diagnostic(alloc, bytes) {
+        Ok(text) => Ok(Answer { text, store: None }),
+        Err(DiagnosticFault::Cbor(fault)) => Err(Status::BadFile {
+            word: 1,
+            why: BadFile::Cbor(fault),
+        }),
+        Err(DiagnosticFault::NoMemory) => Err(Status::NoMemory),
+    }
 }
 
 /// The answer of `found`.
 fn found<'w>(
     alloc: Global,
-    document: &[u8; 16],
+    document: [u8; 16],
     members: u8,
     name: &'w str,
 ) -> Result<Answer<'w>, Status>
-    requires { 0 < members }
-    ensures { Follows answer_of result (exactly (Ok (storing 3 name.now (made_file document.now members) (holds_line (members_of members))))) }
+    requires some { 1 ≤ members }
+    requires few { members ≤ 32 }
+    ensures { (bytes : List ℕ) → Follows answer_of result (order_made_of (ordering (founds document members name.now)) bytes) }
 {
-    let bytes = new_file(alloc, document, members)?;
+    let bytes = first_file(
+        alloc,
+        DocRef {
+            id: document,
+            n: members,
+        },
+    )?;
     let text = holds_text(alloc, members)?;
     Ok(Answer {
         text,
@@ -68,16 +92,17 @@ fn found<'w>(
 fn make<'w>(alloc: Global, task: Task<'w>, bytes: &[u8]) -> Result<Answer<'w>, Status>
     requires given { (order : Order) × Does task order }
     requires short { length bytes.now ≤ file_limit }
-    ensures { (order : Order) → Does task.entry order → Follows answer_of result (task_made order bytes.now) }
+    ensures { (order : Order) → Does task.entry order → Follows answer_of result (order_made_of order bytes.now) }
 {
     match task {
         Task::Found {
             document,
             members,
             name,
-        } => found(alloc, &document, members, name),
+        } => found(alloc, document, members, name),
         Task::Edit { name, edit } => edit_file(alloc, bytes, name, edit),
         Task::Show { .. } => show(alloc, bytes),
+        Task::Items { .. } => items(alloc, bytes),
     }
 }
 

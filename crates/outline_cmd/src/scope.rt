@@ -34,6 +34,9 @@ pub(crate) enum Task<'w> {
     Show {
         name: &'w str,
     },
+    Items {
+        name: &'w str,
+    },
 }
 
 impl<'w> Task<'w> {
@@ -43,7 +46,9 @@ impl<'w> Task<'w> {
     {
         match self {
             Task::Found { .. } => None,
-            Task::Edit { name, .. } | Task::Show { name } => Some(Named { word: 1, name }),
+            Task::Edit { name, .. } | Task::Show { name } | Task::Items { name } => {
+                Some(Named { word: 1, name })
+            }
         }
     }
 
@@ -53,7 +58,7 @@ impl<'w> Task<'w> {
     {
         match self {
             Task::Found { name, .. } => Some(Named { word: 3, name }),
-            Task::Edit { .. } | Task::Show { .. } => None,
+            Task::Edit { .. } | Task::Show { .. } | Task::Items { .. } => None,
         }
     }
 }
@@ -92,7 +97,6 @@ fn is_untaken(word: &str) -> bool
             | "release"
             | "begin"
             | "check"
-            | "items"
             | "play"
             | "sample"
     )
@@ -129,6 +133,7 @@ pub(crate) fn take<'w>(command: Command<'w>) -> Result<Task<'w>, Status>
         } => edit_of(name, node, EditWords::Put { key, value }),
         Command::Unset { name, node, key } => edit_of(name, node, EditWords::Unset { key }),
         Command::Show { name } => Ok(Task::Show { name }),
+        Command::Items { name } => Ok(Task::Items { name }),
         _ => Err(Status::NotBuilt { word: 0 }),
     }
 }

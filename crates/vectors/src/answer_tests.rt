@@ -3,7 +3,8 @@ use crate::files::{
     SECOND, SECOND_WITH_KEY,
 };
 use crate::runs::{NO_FAULTS, Step, take, take_with};
-use outline_cmd::{EditFault, MemberFault, Status};
+use cbor_det::{CborFault, Why};
+use outline_cmd::{BadFile, EditFault, MemberFault, Status};
 use outside::MemKeeper;
 use std::test::*;
 
@@ -42,12 +43,36 @@ fn founds_puts_and_unsets(rt: HostRuntime) -> Result<(), Fail> {
     Ok(())
 }
 
-const NOT_SMALL: Status = Status::NotBuilt { word: 1 };
+const NOT_BUILT: Status = Status::NotBuilt { word: 1 };
+
+const NOT_SHORTEST: Status = Status::BadFile {
+    word: 1,
+    why: BadFile::Cbor(CborFault {
+        at: 62,
+        why: Why::NotShortest,
+    }),
+};
+
+const ENDED: Status = Status::BadFile {
+    word: 1,
+    why: BadFile::Cbor(CborFault {
+        at: 0,
+        why: Why::Ended,
+    }),
+};
 
 /// Of each file what a command does with it: the file before and after, and what is printed.
 const FILES: &[(&[u8], &[&str], Status, &str, &[u8])] = &[
-    (LONGER_COUNT, &["show", "a"], NOT_SMALL, "", LONGER_COUNT),
-    (b"", &["show", "a"], NOT_SMALL, "", b""),
+    (LONGER_COUNT, &["show", "a"], NOT_SHORTEST, "", LONGER_COUNT),
+    (b"", &["show", "a"], ENDED, "", b""),
+    (b"", &["items", "a"], Status::Done, "", b""),
+    (
+        b"\x83\x01\x20\x41\x07\xf6",
+        &["items", "a"],
+        Status::Done,
+        "[1, -1, h'07']\nnull\n",
+        b"\x83\x01\x20\x41\x07\xf6",
+    ),
     (SECOND, PUT, Status::Done, "made 1 1 1\n", SECOND_WITH_KEY),
     (
         MADE_BY_SECOND,
@@ -56,7 +81,7 @@ const FILES: &[(&[u8], &[&str], Status, &str, &[u8])] = &[
         ONE_KEY_TEXT,
         MADE_BY_SECOND,
     ),
-    (MADE_BY_SECOND, PUT, NOT_SMALL, "", MADE_BY_SECOND),
+    (MADE_BY_SECOND, PUT, NOT_BUILT, "", MADE_BY_SECOND),
     (
         NOBODY,
         &["show", "a"],

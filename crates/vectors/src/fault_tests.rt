@@ -1,6 +1,7 @@
 use crate::files::{DOCUMENT, NO_CHANGE, ONE_KEY, ONE_KEY_TEXT};
 use crate::runs::{Faults, NO_FAULTS, Step, take, take_with};
-use outline_cmd::Status;
+use op_grammar::Rule;
+use outline_cmd::{BadFile, Status};
 use outside::MemKeeper;
 use std::test::*;
 
@@ -130,11 +131,20 @@ fn tries_again(rt: HostRuntime) -> Result<(), Fail> {
     Ok(())
 }
 
+/// Item 0 breaks F1.
+const NO_HEADER: Status = Status::BadFile {
+    word: 1,
+    why: BadFile::Rule {
+        item: 0,
+        rule: Rule::F1,
+    },
+};
+
 /// Files of so many zeros, which are loaded in pieces of 65,536 bytes, up to the first that goes past 16,777,216: which
 /// load fails, and how a `show` ends.
 const PIECES: &[(usize, &[u64], Status)] = &[
     (130_000, &[2], UNREAD),
-    (130_000, &[3], Status::NotBuilt { word: 1 }),
+    (130_000, &[3], NO_HEADER),
     (17_000_000, &[256], UNREAD),
     (
         17_000_000,

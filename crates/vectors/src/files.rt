@@ -1,4 +1,4 @@
-// Files of the small form, written by hand.
+// Files written by hand.
 use std::alloc::{AllocError, Global};
 
 /// The document whose id counts the bytes from 0 to 15, in the word that founds it.

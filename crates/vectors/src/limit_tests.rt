@@ -1,6 +1,7 @@
 use crate::files::{DOCUMENT, NO_CHANGE, at_time, of_length, one_change, with_body};
 use crate::runs::status_over;
-use outline_cmd::{EditFault, Status};
+use op_grammar::Rule;
+use outline_cmd::{BadFile, EditFault, Status};
 use std::alloc::{AllocError, Global};
 use std::test::*;
 
@@ -8,7 +9,22 @@ const PUT: &[&str] = &["put", "a", "root", "k", "1"];
 
 const SHOW: &[&str] = &["show", "a"];
 
-const NOT_SMALL: Status = Status::NotBuilt { word: 1 };
+/// The first change breaks G6, or G7.
+const WRONG_BODY: Status = Status::BadFile {
+    word: 1,
+    why: BadFile::Rule {
+        item: 2,
+        rule: Rule::G6,
+    },
+};
+
+const WRONG_OPERATIONS: Status = Status::BadFile {
+    word: 1,
+    why: BadFile::Rule {
+        item: 2,
+        rule: Rule::G7,
+    },
+};
 
 const TOO_LARGE: Status = Status::TooLarge {
     word: 1,
@@ -107,11 +123,11 @@ fn bytes_of(alloc: Global, made: Made) -> Result<Vec<u8>, AllocError> {
 /// 65,536 bytes, a body 1,048,576, and a file 16,777,216; what comes behind these isn't looked at. A time is below 2^48.
 const FILES: &[(Made, &[&str], Status, usize)] = &[
     (Made::OneChange(65_535, 1), SHOW, Status::Done, 0),
-    (Made::OneChange(65_536, 1), SHOW, NOT_SMALL, 0),
+    (Made::OneChange(65_536, 1), SHOW, WRONG_OPERATIONS, 0),
     (Made::OneChange(0, 65_536), SHOW, Status::Done, 0),
-    (Made::OneChange(0, 65_537), SHOW, NOT_SMALL, 0),
+    (Made::OneChange(0, 65_537), SHOW, WRONG_OPERATIONS, 0),
     (Made::Body(1_048_576), SHOW, Status::Done, 0),
-    (Made::Body(1_048_577), SHOW, NOT_SMALL, 0),
+    (Made::Body(1_048_577), SHOW, WRONG_BODY, 0),
     (Made::Length(16_777_216), SHOW, Status::Done, 0),
     (Made::Length(16_777_217), SHOW, TOO_LARGE, 0),
     (Made::Zeros(17_000_000), SHOW, TOO_LARGE, 0),

@@ -1,0 +1,92 @@
+-- The stages of opening a file answer what they mean.
+use Rattle.std.proofs.Common.{◌≡◌, ◌≢◌, ℕ, ◌≤◌, Bool, true, false, eqb, ◌||◌, List, ◌∷◌, [], map, length, Ok, Err, refl, sym, ap, ◌∙◌}
+use Rattle.std.specs.List.{list_any}
+use Rattle.model.specs.File.{File, Kind, member_file, bundle, snapshot, kind_number, file_limit}
+use Rattle.replica.specs.Scanning.{ScanAnswer}
+use Rattle.outline_cmd.specs.declared.status.Status.TheVariants as s
+use Rattle.outline_cmd.specs.declared.doc_store.Document.{Document}
+use Rattle.outline_cmd.specs.Meaning.{scanned, opened, member_files, based_files}
+use Rattle.outline_cmd.specs.Opened.{IsScanned, IsOpened, IsTaken, AreKinds}
+use Rattle.outline_cmd.specs.Outcome.{provided, of_kind}
+use Rattle.outline_cmd.specs.Scope.{is_taken, taken_as, taken_file}
+use Rattle.outline_cmd.proofs.BaseLaws.{no_other_base}
+use Rattle.outline_cmd.proofs.LedgerMeaning.{kind_passed}
+use Rattle.outline_cmd.proofs.StepLaws.{on}
+
+-- ---- scanning
+
+pub scan_is : (bytes : List ℕ) (f : File) → length bytes ≤ file_limit → ScanAnswer bytes (Ok f) → IsScanned bytes f
+scan_is bytes f short found = record { stored = record { spells = found.0; most = short }; base = found.1 }
+
+pub scan_means : (word : ℕ) (bytes : List ℕ) (f : File) → length bytes ≤ file_limit → ScanAnswer bytes (Ok f) → scanned word bytes (Ok f)
+scan_means word bytes f short found = (Ok tt, no_other_base bytes f short found.0 found.1, record { spells = found.0; most = short })
+
+-- ---- what is taken
+
+taken_in : (k : Kind) (word : ℕ) (f : File) (b : Bool) → k ≢ bundle → is_taken f ≡ b → taken_as k word f ≡ provided b (s.NotBuilt word)
+taken_in member_file word f b other is = ap (λ t. provided t (s.NotBuilt word)) is
+taken_in bundle word f b other is = absurd (other refl)
+taken_in snapshot word f b other is = ap (λ t. provided t (s.NotBuilt word)) is
+
+pub is_based : (f : File) → kind_number f.kind ≢ 1 → f.kind ≢ bundle
+is_based f other e = other (ap kind_number e)
+
+pub bundle_from : (k : Kind) → kind_number k ≡ 1 → k ≡ bundle
+bundle_from member_file e = absurd cc
+bundle_from bundle e = refl
+bundle_from snapshot e = absurd cc
+
+-- A bundle is taken.
+pub bundles_taken : (word : ℕ) (f : File) → kind_number f.kind ≡ 1 → Ok tt ≡ taken_file word f
+bundles_taken word f e = ap (λ (k : Kind). taken_as k word f) (sym (bundle_from f.kind e))
+
+pub file_taken : (word : ℕ) (f : File) → kind_number f.kind ≢ 1 → is_taken f ≡ true → Ok tt ≡ taken_file word f
+file_taken word f other is = sym (taken_in f.kind word f true (is_based f other) is)
+
+pub file_not_taken : (word : ℕ) (f : File) → kind_number f.kind ≢ 1 → is_taken f ≡ false → Err (s.NotBuilt word) ≡ taken_file word f
+file_not_taken word f other is = sym (taken_in f.kind word f false (is_based f other) is)
+
+taken_by : (k : Kind) (word : ℕ) (f : File) (b : Bool) → k ≢ bundle → is_taken f ≡ b → taken_as k word f ≡ Ok tt → b ≡ true
+taken_by k word f true other is e = refl
+taken_by k word f false other is e = let none = taken_in k word f false other is in absurd cc
+
+pub opened_taken : (word : ℕ) (bytes : List ℕ) (f : File) → IsScanned bytes f → taken_file word f ≡ Ok tt → f.kind ≢ bundle → IsTaken f
+opened_taken word bytes f is taken kind = record { bytes = bytes; scanned = is; kind = kind; taken = taken_by f.kind word f (is_taken f) kind refl taken }
+
+-- ---- kinds
+
+pub kind_is : (word kind : ℕ) (f : File) (kinds : List Kind) (b : Bool) → kind ≡ kind_number f.kind → list_any (λ l. eqb (kind_number l) (kind_number f.kind)) kinds ≡ b → of_kind word kinds f ≡ on (provided b (s.OtherKind word kind)) (λ u. Ok f)
+kind_is word kind f kinds b is among = (λ i. on (provided (among i) (s.OtherKind word (sym is i))) (λ u. Ok f))
+
+pub numbers_any : (kind : ℕ) (kinds : List Kind) → list_any (λ k. eqb k kind) (map kind_number kinds) ≡ list_any (λ l. eqb (kind_number l) kind) kinds
+numbers_any kind [] = refl
+numbers_any kind (k ∷ kinds) = ap (λ b. eqb (kind_number k) kind || b) (numbers_any kind kinds)
+
+-- whether a kind is among those that are taken
+pub kind_among : (kind : ℕ) (numbers : List ℕ) (f : File) (kinds : List Kind) (b : Bool) → kind ≡ kind_number f.kind → AreKinds numbers kinds → b ≡ list_any (λ k. eqb k kind) numbers → list_any (λ l. eqb (kind_number l) (kind_number f.kind)) kinds ≡ b
+kind_among kind numbers f kinds b is are found =
+    ap (λ k. list_any (λ l. eqb (kind_number l) k) kinds) (sym is) ∙ sym (numbers_any kind kinds) ∙ ap (list_any (λ k. eqb k kind)) (sym are) ∙ sym found
+
+-- ---- what is opened
+
+pub not_among_based : (k : Kind) → list_any (λ l. eqb (kind_number l) (kind_number k)) based_files ≡ true → k ≢ bundle
+not_among_based member_file e is = cc
+not_among_based bundle e is = absurd cc
+not_among_based snapshot e is = cc
+
+pub not_among_members : (k : Kind) → list_any (λ l. eqb (kind_number l) (kind_number k)) member_files ≡ true → k ≢ bundle
+not_among_members member_file e is = cc
+not_among_members bundle e is = absurd cc
+not_among_members snapshot e is = absurd cc
+
+-- A file of these kinds has a base.
+pub opened_based : (word : ℕ) (bytes : List ℕ) (kinds : List Kind) (f : File) → ((k : Kind) → list_any (λ l. eqb (kind_number l) (kind_number k)) kinds ≡ true → k ≢ bundle) → opened word kinds bytes (Ok f) → f.kind ≢ bundle
+opened_based word bytes kinds f based (Ok g, scans, (Ok u, taken, e)) =
+    let p = kind_passed (list_any (λ l. eqb (kind_number l) (kind_number g.kind)) kinds) f g (s.OtherKind word (kind_number g.kind)) e in
+    λ is. based g.kind p.0 (ap (λ (h : File). h.kind) (sym p.1) ∙ is)
+opened_based word bytes kinds f based (Ok g, scans, (Err q, taken, e)) = absurd cc
+opened_based word bytes kinds f based (Err q, scans, e) = absurd cc
+
+-- It is taken.
+pub is_taken_file : (word : ℕ) (bytes : List ℕ) (f : File) (document : Document) → IsOpened word bytes f document → f.kind ≢ bundle → IsTaken f
+is_taken_file word bytes f document is kind = opened_taken word bytes f is.scanned is.taken kind
