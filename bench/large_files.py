@@ -60,10 +60,14 @@ def make(size, key_of, most, folder):
 
 
 def make_apart(*given):
-    """Makes the files in a process of its own, since the memory of this one counts as that of what it starts."""
+    apart(make, *given)
+
+
+def apart(makes, *given):
+    """Makes files in a process of its own, since the memory of this one counts as that of what it starts."""
     child = os.fork()
     if not child:
-        make(*given)
+        makes(*given)
         os._exit(0)
     if os.waitpid(child, 0)[1]:
         sys.exit("bench: the files could not be made")

@@ -1,4 +1,4 @@
-"""Makes the bytes of member files from scratch: a header, an empty base and kept changes that put keys on the root.
+"""Makes the bytes of files from scratch: member files with an empty base, and bundles, with changes of any operations.
 
 A file is a sequence of CBOR items (RFC 8949 section 3, RFC 8742), each number and length in its shortest form.
 """
@@ -7,7 +7,7 @@ LARGEST_FILE = 16_777_216
 LARGEST_BODY = 1_048_576
 LARGEST_WIDTH = 65_536
 
-UNSIGNED, NEGATIVE, BYTES, TEXT, ARRAY = range(5)
+UNSIGNED, NEGATIVE, BYTES, TEXT, ARRAY, MAP, TAG = range(7)
 NULL, FALSE, TRUE = b"\xf6", b"\xf4", b"\xf5"
 
 
@@ -58,20 +58,36 @@ def put(key, content):
     return PUT_ON_ROOT + text(key) + value(content)
 
 
-def change(member, count, time, members, puts):
-    """The member's change number `count`, which knows no change of another member; `puts` are operations of width 1."""
+def field(content):
+    """A field of an operation: an id as a triple, or a value."""
+    return array([number(it) for it in content]) if isinstance(content, tuple) else value(content)
+
+
+def operation(kind, *fields):
+    return head(ARRAY, 1 + len(fields)) + number(kind) + b"".join(map(field, fields))
+
+
+def change(member, count, time, members, operations, width=None):
+    """The member's change number `count`, which knows no change of another member. Without `width` each operation has width 1."""
     causes = array([number(count - 1 if it == member else 0) for it in range(members)])
-    body = octets(b"".join(puts))
-    fields = (number(member), number(count), number(time), causes, number(len(puts)), number(len(puts)), body)
-    return array(fields)
+    ids = len(operations) if width is None else width
+    body = octets(b"".join(operations))
+    return array([number(member), number(count), number(time), causes, number(len(operations)), number(ids), body])
+
+
+def header(kind, document, members, mine, changes):
+    return array([
+        text("outline"), number(1), number(kind), octets(document), number(members),
+        array([number(it) for it in mine]), number(len(changes)), number(0),
+    ])
+
+
+def bundle(document, members, changes):
+    return header(1, document, members, [], changes) + b"".join(changes)
 
 
 def member_file(document, members, mine, changes):
     """A member file with the empty base and nothing waiting."""
-    header = array([
-        text("outline"), number(1), number(0), octets(document), number(members),
-        array([number(it) for it in mine]), number(len(changes)), number(0),
-    ])
     row = array([number(0), number(0), array([number(0)] * members)])
     base = array([number(0), array([row] * members)] + [array([])] * 6)
-    return header + base + b"".join(changes)
+    return header(0, document, members, mine, changes) + base + b"".join(changes)
