@@ -1,0 +1,11 @@
+pub mod TableLaws
+pub mod JoinLaws
+pub mod MoveLaws
+pub mod DocumentLaws
+pub mod WorkLaws
+pub mod ReferenceLaws
+pub mod ViewLaws
+pub mod PlanLaws
+pub mod ForgetLaws
+pub mod FreshLaws
+pub mod ComeLaws

@@ -1,0 +1,9 @@
+pub mod Positions
+pub mod Kept
+pub mod Documents
+pub mod References
+pub mod Keys
+pub mod Shown
+pub mod Views
+pub mod FaultText
+pub mod Edits

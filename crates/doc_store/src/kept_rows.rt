@@ -1,0 +1,142 @@
+// The tables of a document but that of nodes.
+ghost use Rattle.std.specs.Prelude.{◌≡◌, ◌++◌, [], OnOk, IfOk};
+ghost use Rattle.std.specs.FinMap as fin;
+ghost use Rattle.op_grammar.specs.Operations.{operation_of};
+ghost use Rattle.model.specs.State.{State, Atom, apart};
+ghost use Rattle.model.specs.View.{children, outline, view_node};
+ghost use Rattle.model_laws.specs.Arrival.{contents};
+ghost use Rattle.tree_log.specs.Steps.{move_by, moves_of};
+ghost use Rattle.doc_store.specs.Kept.{MayBeDone, contents_of};
+ghost use Rattle.doc_store.specs.Shown.{node_seen};
+ghost use Rattle.doc_store.specs.Views.{Finds};
+ghost use Rattle.doc_store.specs.Documents.{AllMayBeDone, DecodesAll, all_late, parts_of};
+
+use crate::children::{ChildIndex, Pending};
+use crate::keys::{keys_of, no_items};
+use crate::positions::Positions;
+use crate::view::ViewNode;
+use cbor_det::OwnText;
+use lww_map::Registers;
+use op_grammar::{OpRef, OpSource};
+use op_ids::OpId;
+use outside::Tally;
+use std::alloc::{AllocError, Global};
+use std::marker::Model;
+use tree_log::TreeMove;
+
+#[derive(Drop)]
+pub struct KeptRows {
+    alloc: Global,
+    pub positions: Positions,
+    pub registers: Registers,
+}
+
+impl Model for KeptRows {
+    ghost use Rattle.model_laws.specs.Arrival.{Contents};
+    ghost use Rattle.doc_store.specs.Kept.{contents_code, contents_of};
+
+    ghost Value = { Contents };
+
+    ghost coded = { contents_code };
+
+    ghost view = { λ k. contents_of k.positions k.registers };
+}
+
+impl KeptRows {
+    // Empty tables.
+    pub fn new(alloc: Global) -> KeptRows
+        ensures { result ≡ contents_of fin.empty fin.empty }
+    {
+        KeptRows {
+            alloc,
+            positions: Positions::new(alloc),
+            registers: Registers::new(alloc),
+        }
+    }
+
+    // Does all operations, and gives their moves. After a refusal nothing is known of the tables.
+    pub fn do_all<'a, S: OpSource<'a> + Drop>(
+        &mut self,
+        ops: S,
+        tally: &mut Tally,
+    ) -> Result<Vec<TreeMove>, AllocError>
+        requires { AllMayBeDone self.old (S.left ops) }
+        ensures rows { OnOk result (self.new ≡ all_late self.old (parts_of (S.left ops))) }
+        ensures moves { IfOk result (λ v. v.items ≡ moves_of (S.left ops)) }
+        ensures decoded { DecodesAll tally.old tally.new (S.left ops) result }
+        ensures moves_stay { tally.new.moves ≡ tally.old.moves }
+    {
+        let mut ops = ops;
+        let mut moves = Vec::new(self.alloc);
+        while let Some((id, op)) = ops.next_op(tally) {
+            self.do_op(id, op)?;
+            if let Some(step) = move_by(id, op) {
+                moves.push(step)?;
+            }
+        }
+        Ok(moves)
+    }
+
+    // A node, and what it shows.
+    pub fn view_node(&self, next: Pending) -> Result<ViewNode, AllocError>
+        ensures { (s : State) → contents s ≡ self.now
+            → IfOk result (λ n. node_seen n ≡ view_node (outline s) next.depth next.id) }
+    {
+        Ok(ViewNode {
+            depth: next.depth,
+            id: next.id,
+            keys: keys_of(self.alloc, &self.registers, next.id)?,
+            text: OwnText::of(self.alloc, "")?,
+            items: no_items(self.alloc),
+        })
+    }
+
+    // The children of a node, in their order.
+    pub fn children(&self, index: &ChildIndex, parent: OpId) -> Result<Vec<OpId>, AllocError>
+        ensures { (s : State) → contents s ≡ self.now → Finds index.now (fin.entries s.nodes)
+            → IfOk result (λ v. v.items ≡ children s parent) }
+    {
+        let Some(tree) = self.positions.tree(parent) else {
+            return Ok(Vec::new(self.alloc));
+        };
+        let walk = tree.walk()?;
+        index.at_positions(self.alloc, parent, &walk)
+    }
+
+    // What the operation makes of the tables. After a refusal nothing is known of them.
+    fn do_op(&mut self, id: OpId, op: OpRef<'_>) -> Result<(), AllocError>
+        requires { MayBeDone self.old id (operation_of op) }
+        ensures { OnOk result (self.new ≡ all_late self.old (apart id (operation_of op.entry))) }
+    {
+        match op {
+            OpRef::NewNode {
+                parent,
+                anchor,
+                side,
+            } => self.positions.add(parent, id, anchor, side),
+            OpRef::MoveNode {
+                parent,
+                anchor,
+                side,
+                ..
+            } => self.positions.add(parent, id, anchor, side),
+            OpRef::PutKey { node, key, value } => self.registers.write(node, key, id, value),
+            _ => unreachable!(),
+        }
+    }
+}
+
+// The move that an operation is, if it is one.
+fn move_by(id: OpId, op: OpRef<'_>) -> Option<TreeMove>
+    ensures { result ≡ move_by id (operation_of op.entry) }
+{
+    match op {
+        OpRef::NewNode { parent, .. } => Some(TreeMove {
+            id,
+            child: id,
+            parent,
+        }),
+        OpRef::MoveNode { child, parent, .. } => Some(TreeMove { id, child, parent }),
+        _ => None,
+    }
+}

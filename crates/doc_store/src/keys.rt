@@ -1,0 +1,112 @@
+//! What a node shows beside its text.
+
+ghost use Rattle.std.specs.Prelude.{◌≡◌, map, filter_map, IfOk, []};
+ghost use Rattle.std.specs.FinMap as fin;
+ghost use Rattle.op_grammar.specs.Values.{own_value_of};
+ghost use Rattle.model.specs.View.{entry_of};
+ghost use Rattle.doc_store.specs.Keys.{entry_seen, kept_key};
+
+use cbor_det::OwnText;
+use lww_map::{OwnValue, RegisterRow, Registers};
+use op_ids::OpId;
+use std::alloc::{AllocError, Global};
+use std::marker::Model;
+
+/// A key and its value.
+#[derive(Drop)]
+pub struct KeyValue {
+    pub key: OwnText,
+    pub value: OwnValue,
+}
+
+/// The keys of a node whose value isn't null, by their bytes, each with its value.
+#[derive(Drop)]
+pub struct KeyList {
+    keys: Vec<KeyValue>,
+}
+
+impl Model for KeyList {
+    ghost use Rattle.std.specs.Prelude.{List, map};
+    ghost use Rattle.model.specs.View.{Entry};
+    ghost use Rattle.doc_store.specs.Keys.{entries_code, entry_seen};
+
+    ghost Value = { List Entry };
+
+    ghost coded = { entries_code };
+
+    ghost view = { λ k. map entry_seen k.keys.items };
+}
+
+impl KeyList {
+    /// The keys, each with its value.
+    pub fn as_slice(&self) -> &[KeyValue]
+        ensures { map entry_seen result.now ≡ self.now }
+    {
+        self.keys.as_slice()
+    }
+}
+
+/// The elements of a node that aren't dropped, in their order.
+#[derive(Drop)]
+pub struct ItemList {
+    items: Vec<OwnValue>,
+}
+
+impl Model for ItemList {
+    ghost use Rattle.std.specs.Prelude.{List, map};
+    ghost use Rattle.model.specs.Value.{Value as Shown};
+    ghost use Rattle.op_grammar.specs.Values.{own_value_of};
+    ghost use Rattle.doc_store.specs.Keys.{values_code};
+
+    ghost Value = { List Shown };
+
+    ghost coded = { values_code };
+
+    ghost view = { λ l. map own_value_of l.items.items };
+}
+
+impl ItemList {
+    /// The elements.
+    pub fn as_slice(&self) -> &[OwnValue]
+        ensures { map own_value_of result.now ≡ self.now }
+    {
+        self.items.as_slice()
+    }
+}
+
+// The key of a register whose value isn't null, with the value.
+fn shown_key(row: RegisterRow) -> Option<KeyValue>
+    ensures { result ≡ kept_key row }
+{
+    match row.value {
+        OwnValue::Null => None,
+        value => Some(KeyValue {
+            key: row.key,
+            value,
+        }),
+    }
+}
+
+// The keys of the registers whose values aren't null, with the values.
+fn shown_keys(alloc: Global, rows: Vec<RegisterRow>) -> Result<Vec<KeyValue>, AllocError>
+    ensures { IfOk result (λ v. v.items ≡ filter_map kept_key rows.items) }
+{
+    rows.into_iter().filter_map(shown_key).collect(alloc)
+}
+
+// What a node has under its keys.
+pub fn keys_of(alloc: Global, registers: &Registers, node: OpId) -> Result<KeyList, AllocError>
+    ensures { IfOk result (λ k. k ≡ filter_map (entry_of node) (fin.entries registers.now)) }
+{
+    let keys = shown_keys(alloc, registers.entries(node)?)?;
+    Ok(KeyList { keys })
+}
+
+// No elements.
+pub fn no_items(alloc: Global) -> ItemList
+    ensures { result ≡ [] }
+{
+    ItemList {
+        items: Vec::new(alloc),
+    }
+}

@@ -1,0 +1,28 @@
+//! The document: its tables, the log of its moves, and what is planned and shown of them.
+#![tactic(auto)]
+
+mod children;
+mod doc;
+mod edit;
+mod kept_rows;
+mod keys;
+pub mod laws;
+mod made;
+mod plan;
+mod positions;
+mod references;
+mod tables;
+mod view;
+
+pub use doc::Doc;
+pub use edit::{Edit, EditFault, PlanFault};
+pub use fugue_tree::PlaceRow;
+pub use keys::{ItemList, KeyList, KeyValue};
+pub use lww_map::RegisterRow;
+pub use references::BadRef;
+pub use tables::{NodeRows, PlaceRows, RegisterRows, Tables};
+pub use tree_move::NodeRow;
+pub use view::{View, ViewNode};
+
+#[cfg(test)]
+mod tests;

@@ -1,0 +1,25 @@
+// References of operations.
+ghost use Rattle.std.specs.Prelude.{◌≡◌, ◌&&◌, not, map, filter, slice_get};
+ghost use Rattle.op_ids.specs.Order.{id_lt};
+
+use op_ids::OpId;
+
+/// A wrong reference: the place of the operation, from 0, and the id that it names. 2^32 - 1 stands for any greater place.
+#[derive(Clone, Copy, Debug, PartialEq, Eq)]
+pub struct BadRef {
+    pub op: u32,
+    pub id: OpId,
+}
+
+// The first of the ids, each with whether it is there, that isn't there or isn't smaller than the operation's id.
+pub fn first_wrong(id: OpId, names: &[(OpId, bool)]) -> Option<OpId>
+    ensures { result
+        ≡ slice_get (map (λ n. n.0) (filter (λ n. not (n.1 && id_lt n.0 id)) names.now)) 0 }
+{
+    for (name, is_there) in names {
+        if !(*is_there && name.is_before(id)) {
+            return Some(*name);
+        }
+    }
+    None
+}
