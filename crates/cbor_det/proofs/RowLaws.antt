@@ -1,10 +1,11 @@
 -- Reads of fields one after the other, and of whole rows, from the reads of their parts.
-use Rattle.std.proofs.Common.{◌≡◌, ℕ, suc, ◌+◌, List, [], ◌∷◌, ◌++◌, length, refl, sym, ap, subst, ◌∙◌, arith, append_assoc}
-use Rattle.std.specs.Prelude.{flat_map, Option, None, Some, Ok, Err}
+use Rattle.std.proofs.Common.{◌≡◌, ℕ, suc, ◌+◌, ◌≤◌, List, [], ◌∷◌, ◌++◌, length, refl, sym, ap, subst, ◌∙◌, arith, append_assoc}
+use Rattle.std.specs.Prelude.{flat_map, Option, None, Some, IfSome, Ok, Err}
 use Rattle.std.specs.List.{AllByRecursion}
+use Rattle.std.proofs.lemmas.Grind.{flat_map-append}
 use Rattle.std.proofs.lemmas.List.{length-append, append-nil}
 use Rattle.cbor_det.specs.Item.{Item, Items, unsigned, list, no_items, item, items_of, row, item_count, spell, spell_items, IsItem, AreItems}
-use Rattle.cbor_det.specs.Unread.{Unread, CborFault}
+use Rattle.cbor_det.specs.Unread.{Unread, CborFault, Took}
 use Rattle.cbor_det.specs.Asked.{as_unsigned, as_list, ReadsItem, AnswersItem}
 use Rattle.cbor_det.proofs.AskedLaws.{unsigned_is, list_is}
 use Rattle.cbor_det.specs.Rows.{FieldAnswer, ReadsField, FieldsAnswer, ReadsFields, ReadsRow}
@@ -60,13 +61,20 @@ same_behind (x ∷ xs) (y ∷ ys) us vs l e = same_behind xs ys us vs (omega ari
 -- ---- one after the other
 
 -- a read of one field is one of fields
-pub one : {X Y : Type 0} (view : X → Y) (to_item : Y → Item) (Is : Y → Type 0) (old new : Unread) (r : Option X) → ReadsField view to_item Is old new r → ReadsFields 1 view (λ y. to_item y ∷ []) Is old new r
-one view to_item Is old new r reads [] more le all parts = absurd (omega arith)
-one view to_item Is old new (Some v) reads (x ∷ xs) more le all parts =
-    let s = reads x (flat_map spell xs ++ more) all.0 (parts ∙ append_assoc (spell x) (flat_map spell xs) more) in
-    (xs, ap (λ z. z ∷ xs) s.0, s.1, s.2)
-one view to_item Is old new None reads (x ∷ xs) more le all parts = λ y left e is.
-    reads x (flat_map spell xs ++ more) all.0 (parts ∙ append_assoc (spell x) (flat_map spell xs) more) y (cc) is
+pub one : {X Y : Type 0} (view : X → Y) (to_item : Y → Item) (Is : Y → Type 0) (old new : Unread) (r : Option X) → ReadsField view to_item Is old new r → IfSome r (λ v. Is (view v) × Took (spell (to_item (view v))) old new) → ReadsFields 1 view (λ y. to_item y ∷ []) Is old new r
+one {X} {Y} view to_item Is old new r reads found = record { answers = λ fields more le all parts. by r reads fields more le all parts; found = taken r found }
+  where
+    by : (q : Option X) → ReadsField view to_item Is old new q → (fields : List Item) (more : List ℕ) → 1 ≤ length fields → AllByRecursion IsItem fields → old.rest ≡ flat_map spell fields ++ more → FieldsAnswer view (λ y. to_item y ∷ []) Is new q fields more
+    by q reads [] more le all parts = absurd (omega arith)
+    by (Some v) reads (x ∷ xs) more le all parts =
+        let s = reads x (flat_map spell xs ++ more) all.0 (parts ∙ append_assoc (spell x) (flat_map spell xs) more) in
+        (xs, ap (λ z. z ∷ xs) s.0, s.1, s.2)
+    by None reads (x ∷ xs) more le all parts = λ y left e is.
+        reads x (flat_map spell xs ++ more) all.0 (parts ∙ append_assoc (spell x) (flat_map spell xs) more) y (cc) is
+
+    taken : (q : Option X) → IfSome q (λ v. Is (view v) × Took (spell (to_item (view v))) old new) → IfSome q (λ v. Is (view v) × Took (flat_map spell (to_item (view v) ∷ [])) old new)
+    taken (Some v) f = (f.0, f.1 ∙ sym (append_assoc (spell (to_item (view v))) [] new.rest))
+    taken None f = tt
 
 module _ {X Y A B : Type 0} (view : X → Y) (items : Y → List Item) (Is : Y → Type 0) (count : ℕ) (sizes : (y : Y) → length (items y) ≡ count) (seen : A → B) (others : B → List Item) (Are : B → Type 0) (further : ℕ) (o0 o1 o2 : Unread) where
   -- a read of fields, and then of further ones: that of all of them
@@ -75,28 +83,41 @@ module _ {X Y A B : Type 0} (view : X → Y) (items : Y → List Item) (Is : Y �
 
   -- where both give a value
   pub both_read : (v : X) (w : A) → ReadsFields count view items Is o0 o1 (Some v) → ReadsFields further seen others Are o1 o2 (Some w) → Both (Some (v, w))
-  both_read v w first second fields more le all parts =
-      let s = first fields more (omega (arith, le)) all parts in
-      let l = ap length s.1 ∙ length-append (items (view v)) s.0 in
-      let here = subst (AllByRecursion IsItem) s.1 all in
-      let t = second s.0 more (omega (arith, l, le, sizes (view v))) (all_right (items (view v)) s.0 here) s.3 in
-      (t.0, s.1 ∙ ap (λ (z : List Item). items (view v) ++ z) t.1 ∙ sym (append_assoc (items (view v)) (others (seen w)) t.0), (s.2, t.2), t.3)
+  both_read v w first second = record {
+    answers = λ fields more le all parts.
+        let s = first.answers fields more (omega (arith, le)) all parts in
+        let l = ap length s.1 ∙ length-append (items (view v)) s.0 in
+        let here = subst (AllByRecursion IsItem) s.1 all in
+        let t = second.answers s.0 more (omega (arith, l, le, sizes (view v))) (all_right (items (view v)) s.0 here) s.3 in
+        (t.0, s.1 ∙ ap (λ (z : List Item). items (view v) ++ z) t.1 ∙ sym (append_assoc (items (view v)) (others (seen w)) t.0), (s.2, t.2), t.3);
+    found = (
+      (first.found.0, second.found.0),
+      first.found.1 ∙ ap (λ (t : List ℕ). flat_map spell (items (view v)) ++ t) second.found.1 ∙ sym (append_assoc (flat_map spell (items (view v))) (flat_map spell (others (seen w))) o2.rest)
+          ∙ ap (λ (t : List ℕ). t ++ o2.rest) (sym (flat_map-append spell (items (view v)) (others (seen w)))),
+    );
+  }
 
   -- where the second gives none
   pub second_stops : (v : X) (r : Option (X × A)) → r ≡ None → ReadsFields count view items Is o0 o1 (Some v) → ReadsFields further seen others Are o1 o2 None → Both r
-  second_stops v (Some w) none first second fields more le all parts = absurd cc
-  second_stops v None none first second fields more le all parts = λ y left e is.
-      let s = first fields more (omega (arith, le)) all parts in
-      let l = ap length s.1 ∙ length-append (items (view v)) s.0 in
-      let here = subst (AllByRecursion IsItem) s.1 all in
-      let t = second s.0 more (omega (arith, l, le, sizes (view v))) (all_right (items (view v)) s.0 here) s.3 in
-      t y.1 left (same_behind (items (view v)) (items y.0) s.0 (others y.1 ++ left) (sizes (view v) ∙ sym (sizes y.0)) (sym s.1 ∙ e ∙ append_assoc (items y.0) (others y.1) left)) is.1
+  second_stops v (Some w) none first second = absurd cc
+  second_stops v None none first second = record {
+    answers = λ fields more le all parts y left e is.
+        let s = first.answers fields more (omega (arith, le)) all parts in
+        let l = ap length s.1 ∙ length-append (items (view v)) s.0 in
+        let here = subst (AllByRecursion IsItem) s.1 all in
+        let t = second.answers s.0 more (omega (arith, l, le, sizes (view v))) (all_right (items (view v)) s.0 here) s.3 in
+        t y.1 left (same_behind (items (view v)) (items y.0) s.0 (others y.1 ++ left) (sizes (view v) ∙ sym (sizes y.0)) (sym s.1 ∙ e ∙ append_assoc (items y.0) (others y.1) left)) is.1;
+    found = tt;
+  }
 
   -- where the first gives none
   pub first_stops : (r : Option (X × A)) → r ≡ None → ReadsFields count view items Is o0 o1 None → Both r
-  first_stops (Some w) none first fields more le all parts = absurd cc
-  first_stops None none first fields more le all parts = λ y left e is.
-      first fields more (omega (arith, le)) all parts y.0 (others y.1 ++ left) (e ∙ append_assoc (items y.0) (others y.1) left) is.0
+  first_stops (Some w) none first = absurd cc
+  first_stops None none first = record {
+    answers = λ fields more le all parts y left e is.
+        first.answers fields more (omega (arith, le)) all parts y.0 (others y.1 ++ left) (e ∙ append_assoc (items y.0) (others y.1) left) is.0;
+    found = tt;
+  }
 
 -- ---- rows
 
@@ -133,7 +154,7 @@ module _ {X Y : Type 0} (view : X → Y) (items : Y → List Item) (Is : Y → T
   pub whole_read : (r : Option X) (n : ℕ) → n ≡ count → ReadsRow o0 o1 (Some n) → ReadsFields count view items Is o1 o2 r → Whole r
   whole_read (Some v) n e first second x more h parts =
       let s = first x more h parts in
-      let t = second s.0 more (omega (arith, s.3, e)) s.2 s.4 in
+      let t = second.answers s.0 more (omega (arith, s.3, e)) s.2 s.4 in
       let l = ap length t.1 ∙ length-append (items (view v)) t.0 in
       let none = nil_left t.0 (omega (arith, l, s.3, e, sizes (view v))) in
       let same : s.0 ≡ items (view v) = t.1 ∙ ap (λ (z : List Item). items (view v) ++ z) none ∙ append-nil (items (view v)) in
@@ -141,7 +162,7 @@ module _ {X Y : Type 0} (view : X → Y) (items : Y → List Item) (Is : Y → T
   whole_read None n e first second x more h parts = λ y is_row is.
       let s = first x more h parts in
       let same : s.0 ≡ items y = row_same s.0 (items y) (sym s.1 ∙ is_row) in
-      second s.0 more (omega (arith, s.3, e)) s.2 s.4 y [] (same ∙ sym (append-nil (items y))) is
+      second.answers s.0 more (omega (arith, s.3, e)) s.2 s.4 y [] (same ∙ sym (append-nil (items y))) is
 
   -- where it has another number of them
   pub other_count : (n : ℕ) → (n ≡ count → ⊥) → ReadsRow o0 o1 (Some n) → Whole None
@@ -166,5 +187,8 @@ module _ {X Y Z W : Type 0} (view : X → Y) (seen : Z → W) (r : Option X) (ol
   -- the same of fields
   pub fields_none : (count : ℕ) (items : Y → List Item) (Is : Y → Type 0) (others : W → List Item) (Are : W → Type 0) → ((y : Y) → Is y → (w : W) × (items y ≡ others w) × Are w)
       → r ≡ None → ReadsFields count seen others Are old new None → ReadsFields count view items Is old later r
-  fields_none count items Is others Are back none reads fields more le all parts = subst (λ (q : Option X). FieldsAnswer view items Is later q fields more) (sym none)
-      (λ y left e is. let b = back y is in reads fields more le all parts b.0 left (e ∙ ap (λ (z : List Item). z ++ left) b.1) b.2)
+  fields_none count items Is others Are back none reads = subst (λ (q : Option X). ReadsFields count view items Is old later q) (sym none)
+      (record {
+        answers = λ fields more le all parts y left e is. let b = back y is in reads.answers fields more le all parts b.0 left (e ∙ ap (λ (z : List Item). z ++ left) b.1) b.2;
+        found = tt;
+      })
