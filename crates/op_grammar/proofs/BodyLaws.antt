@@ -1,11 +1,11 @@
 -- The operations of a body, one after the other.
-use Rattle.std.proofs.Common.{◌≡◌, ◌↔◌, ℕ, ◌+◌, ◌-◌, ◌<◌, ◌≤◌, ◌^◌, List, [], ◌∷◌, ◌++◌, map, length, refl, sym, ap, subst, ◌∙◌, arith, lit≤}
+use Rattle.std.proofs.Common.{◌≡◌, ◌↔◌, ℕ, ◌+◌, ◌-◌, ◌<◌, ◌≤◌, ◌^◌, List, [], ◌∷◌, ◌++◌, map, length, refl, sym, ap, subst, ◌∙◌, append_assoc, arith, lit≤}
 use Rattle.std.specs.Prelude.{flat_map, Option, None, Some, min, sum_by}
 use Rattle.std.specs.List.{AllByRecursion}
-use Rattle.std.proofs.lemmas.List.{length-append}
-use Rattle.std.proofs.lemmas.List.Sums.{sum_by-cons}
+use Rattle.std.proofs.lemmas.List.{length-append, length-map, append-nil, flat_map_more}
+use Rattle.std.proofs.lemmas.List.Sums.{sum_by-cons, sum_by_push}
 use Rattle.cbor_det.specs.Item.{Item, IsSpelled, spell, Spells}
-use Rattle.cbor_det.specs.Unread.{Unread}
+use Rattle.cbor_det.specs.Unread.{Unread, Took}
 use Rattle.cbor_det.specs.Rows.{ReadsField}
 use Rattle.cbor_det.specs.Flaw.{HasFlaw}
 use Rattle.cbor_det.specs.declared.fault.CborFault.{CborFault}
@@ -16,7 +16,7 @@ use Rattle.model.specs.Rules.{IsBody, HasOperations}
 use Rattle.file_laws.proofs.SameParts.{operation_same}
 use Rattle.file_laws.proofs.BodyLaws.{body_is, body_spelled}
 use Rattle.op_grammar.specs.Operations.{operation_of}
-use Rattle.op_grammar.specs.Parts.{AreOperations, LeftToRead}
+use Rattle.op_grammar.specs.Parts.{AreOperations, SpellsOperations, AreRead, LeftToRead}
 use Rattle.op_grammar.specs.declared.operation.OpRef.{OpRef}
 
 -- ---- one operation
@@ -127,6 +127,45 @@ left_none n bytes count ids read now left so_far le xs spells l = let s = so_far
             of : (os : List Operation) → [] ≡ map operation_item os → sum_by width_of os ≡ left → left ≡ 0
             of [] e taken = sym taken
             of (o ∷ os) e taken = absurd cc
+
+-- and no bytes are
+pub none_left : (n : ℕ) (bytes : List ℕ) (count ids read : ℕ) (now : Unread) (left : ℕ) → Left n bytes count ids read now left → count ≤ read → (xs : List Item) → Spells bytes xs → length xs ≡ count → now.rest ≡ []
+none_left n bytes count ids read now left so_far le xs spells l = let s = so_far xs spells l in by s.items s.counted s.spelled
+  where
+    by : (ys : List Item) → length ys + read ≡ length xs → Spells now.rest ys → now.rest ≡ []
+    by [] counted spelled = spelled.whole
+    by (y ∷ ys) counted spelled = absurd (omega arith)
+
+-- ---- what was read
+
+pub none_read : (n : ℕ) (bytes : List ℕ) (ids : ℕ) (now : Unread) → now.rest ≡ bytes → AreRead n bytes ids 0 now ids
+none_read n bytes ids now at = record { operations = []; each = tt; counted = refl; spelled = sym at; taken = omega arith }
+
+all_more : (n : ℕ) (os : List Operation) (o : Operation) → AllByRecursion (IsOperation n) os → IsOperation n o → AllByRecursion (IsOperation n) (os ++ o ∷ [])
+all_more n [] o each is = (is, tt)
+all_more n (p ∷ os) o each is = (each.0, all_more n os o each.1 is)
+
+-- one more was read
+pub more_read : (n : ℕ) (bytes : List ℕ) (ids read : ℕ) (old new : Unread) (left : ℕ) → AreRead n bytes ids read old left → (o : Operation) → IsOperation n o → Took (spell (operation_item o)) old new → min (width_of o) (2 ^ 32 - 1) ≤ left → AreRead n bytes ids (read + 1) new (left - min (width_of o) (2 ^ 32 - 1))
+more_read n bytes ids read old new left h o is took fits = record {
+  operations = h.operations ++ o ∷ [];
+  each = all_more n h.operations o h.each is;
+  counted = omega (arith, length-append h.operations (o ∷ []), h.counted);
+  spelled =
+      h.spelled ∙ ap (λ (t : List ℕ). body h.operations ++ t) took ∙ sym (append_assoc (body h.operations) (spell (operation_item o)) new.rest)
+      ∙ ap (λ (t : List ℕ). t ++ new.rest) (flat_map_more (λ (p : Operation). spell (operation_item p)) [] h.operations o);
+  taken = omega (arith, sum_by_push width_of h.operations o, h.taken, width_few n o is, fits);
+}
+
+-- all were read, and no ids and no bytes are left
+pub all_read : (n : ℕ) (bytes : List ℕ) (count ids read : ℕ) (now : Unread) (left : ℕ) → n < 2 ^ 64 → length bytes < 2 ^ 64 → AreRead n bytes ids read now left → read ≡ count → left ≡ 0 → now.rest ≡ [] → SpellsOperations n bytes count ids
+all_read n bytes count ids read now left lt short h all no_ids none =
+    let whole : bytes ≡ body h.operations = h.spelled ∙ ap (λ (t : List ℕ). body h.operations ++ t) none ∙ append-nil (body h.operations) in (
+      map operation_item h.operations,
+      subst (λ b. Spells b (map operation_item h.operations)) (sym whole) (body_spelled n h.operations lt h.each (omega (arith, short, ap length whole))),
+      length-map h.operations operation_item ∙ h.counted ∙ all,
+      record { operations = h.operations; are = refl; each = h.each; taken = omega (arith, h.taken, no_ids) },
+    )
 
 -- ---- the whole body
 

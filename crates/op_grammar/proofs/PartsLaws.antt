@@ -179,14 +179,14 @@ pub first_three_not : (o0 o1 : Unread) (r : Option Parts) → r ≡ None → Thr
 first_three_not o0 o1 (Some p) none reads fields more l items parts = absurd cc
 first_three_not o0 o1 None none reads fields more l items parts = λ q e.
     let same = row_same fields _ e in
-    reads fields more (omega (arith, l)) items parts (first_of_parts q) (numbers_item q.causes ∷ count_and_rest (rest_of_parts q)) same (tt, (tt, tt))
+    reads.answers fields more (omega (arith, l)) items parts (first_of_parts q) (numbers_item q.causes ∷ count_and_rest (rest_of_parts q)) same (tt, (tt, tt))
 
 -- what is left behind the first three of seven
 abbrev FourLeft : Unread → List Item → List ℕ → ℕ × (ℕ × ℕ) → Type 0
 FourLeft o1 fields more p = (x : Item) × (xs : List Item) × (fields ≡ three p ++ x ∷ xs) × (length xs ≡ 3) × IsItem x × AllByRecursion IsItem xs × (o1.rest ≡ spell x ++ (flat_map spell xs ++ more))
 
 four_left : (o0 o1 : Unread) (p : ℕ × (ℕ × ℕ)) → Three o0 o1 (Some p) → (fields : List Item) (more : List ℕ) → length fields ≡ 7 → AllByRecursion IsItem fields → o0.rest ≡ flat_map spell fields ++ more → FourLeft o1 fields more p
-four_left o0 o1 p reads fields more l items parts = let s = reads fields more (omega (arith, l)) items parts in by s.0 s.1 s.3
+four_left o0 o1 p reads fields more l items parts = let s = reads.answers fields more (omega (arith, l)) items parts in by s.0 s.1 s.3
   where
     by : (left : List Item) → fields ≡ three p ++ left → o1.rest ≡ flat_map spell left ++ more → FourLeft o1 fields more p
     by [] e rest = absurd (omega (arith, l, ap length e))
@@ -209,13 +209,13 @@ module _ (o0 o1 o2 : Unread) (p : ℕ × (ℕ × ℕ)) (first : Three o0 o1 (Som
       let u = second t.0 (flat_map spell t.1 ++ more) t.4 t.6 in
       let same : three p ++ t.0 ∷ t.1 ≡ three (first_of_parts q) ++ numbers_item q.causes ∷ count_and_rest (rest_of_parts q) = sym t.2 ∙ row_same fields _ e in
       let left : t.1 ≡ count_and_rest (rest_of_parts q) = cc in
-      third t.1 more (omega (arith, t.3)) t.5 u.2 (rest_of_parts q) [] (left ∙ sym (append-nil (count_and_rest (rest_of_parts q)))) (tt, (tt, tt))
+      third.answers t.1 more (omega (arith, t.3)) t.5 u.2 (rest_of_parts q) [] (left ∙ sym (append-nil (count_and_rest (rest_of_parts q)))) (tt, (tt, tt))
 
   pub seven_read : (o3 : Unread) (k : ℕ) (v : Parts) → unread v.causes ≡ o1 → v.member ≡ p.0 → v.number ≡ p.1.0 → v.time ≡ p.1.1 → SkipsRow o1 o2 (Some k) → Rest o2 o3 (Some (v.count, (v.width, v.body))) → ReadsSeven o0 (Some v)
   seven_read o3 k v at e0 e1 e2 second third fields more l items parts =
       let t = four_left o0 o1 p first fields more l items parts in
       let u = second t.0 (flat_map spell t.1 ++ more) t.4 t.6 in
-      let w = third t.1 more (omega (arith, t.3)) t.5 u.2 in
+      let w = third.answers t.1 more (omega (arith, t.3)) t.5 u.2 in
       let none = nil_left w.0 (omega (arith, t.3, ap length w.1)) in
       let left : t.1 ≡ count_and_rest (v.count, (v.width, v.body.now)) = w.1 ∙ ap (λ (z : List Item). count_and_rest (v.count, (v.width, v.body.now)) ++ z) none in
       let q : ChangeParts = record { member = v.member; number = v.number; time = v.time; causes = u.0; count = v.count; width = v.width; body = v.body.now } in

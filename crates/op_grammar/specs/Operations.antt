@@ -1,5 +1,5 @@
 -- Operations without where they lie in memory, and what a read of one answers.
-use Rattle.std.specs.Prelude.{◌≡◌, ◌≢◌, ℕ, List, [], ◌∷◌, ◌++◌, length, flat_map, map, Option, None, Some, Result, Ok, Err}
+use Rattle.std.specs.Prelude.{◌≡◌, ◌≢◌, ℕ, List, [], ◌∷◌, ◌++◌, length, flat_map, map, Option, None, Some, Result, Ok, Err, IfSome}
 use Rattle.std.specs.List.{AllByRecursion}
 use Rattle.std.specs.Str.{chars}
 use Rattle.std.specs.Borrow.{Bor}
@@ -8,7 +8,7 @@ use Rattle.op_ids.specs.declared.OpId.{OpId}
 use Rattle.op_ids.specs.declared.Side.{Side}
 use Rattle.cbor_det.specs.Item as cbor
 use Rattle.cbor_det.specs.Item.{Item, spell, IsItem, IsSpelled}
-use Rattle.cbor_det.specs.Unread.{Unread}
+use Rattle.cbor_det.specs.Unread.{Unread, Took}
 use Rattle.cbor_det.specs.FieldFaults.{FlawedHere}
 use Rattle.model.specs.Value as model
 use Rattle.model.specs.Value.{row}
@@ -85,10 +85,15 @@ abbrev pub KindAnswer : ℕ → ℕ → Unread → Option OpRef → List Item �
 KindAnswer n kind new (Some op) fields more = (row (cbor.unsigned kind ∷ fields) ≡ operation_item (operation_of op)) × IsOperation n (operation_of op) × (new.rest ≡ more)
 KindAnswer n kind new None fields more = (o : Operation) → row (cbor.unsigned kind ∷ fields) ≡ operation_item o → IsOperation n o → ⊥
 
--- where the row has so many fields behind the kind
-abbrev pub ReadsKind : ℕ → ℕ → ℕ → Unread → Unread → Option OpRef → Type 0
-ReadsKind n kind count old new result =
-    (fields : List Item) (more : List ℕ) → length fields ≡ count → AllByRecursion IsItem fields → old.rest ≡ flat_map spell fields ++ more → KindAnswer n kind new result fields more
+-- Behind the kind so many fields of the operation that is read were spelled.
+abbrev pub KindFound : ℕ → ℕ → ℕ → Unread → Unread → OpRef → Type 0
+KindFound n kind count old new op =
+    (fields : List Item) × (length fields ≡ count) × (row (cbor.unsigned kind ∷ fields) ≡ operation_item (operation_of op)) × IsOperation n (operation_of op) × Took (flat_map spell fields) old new
+
+-- A read of the fields behind a kind: so it answers where they are so many, and fields that are read were spelled there.
+pub record ReadsKind (n kind count : ℕ) (old new : Unread) (result : Option OpRef) : Type 0 where
+  pub answers : (fields : List Item) (more : List ℕ) → length fields ≡ count → AllByRecursion IsItem fields → old.rest ≡ flat_map spell fields ++ more → KindAnswer n kind new result fields more
+  pub found : IfSome result (KindFound n kind count old new)
 
 -- how many fields stand behind each kind
 abbrev pub field_counts : List ℕ

@@ -6,7 +6,7 @@ use Rattle.std.specs.Borrow.{Bor}
 use Rattle.cbor_det.specs.Unread.{Unread, unread}
 use Rattle.model.specs.Value.{numbers_item}
 use Rattle.model.specs.Operation.{Operation, IsOperation, operation_item, width_of}
-use Rattle.model.specs.Change.{ChangeParts, parts_item}
+use Rattle.model.specs.Change.{ChangeParts, parts_item, body}
 use Rattle.model.specs.Rules.{BreaksFirst, KeepsAll, KeepsChange}
 use Rattle.op_grammar.specs.Rules.{rule_of}
 use Rattle.op_grammar.specs.Changes.{head_rules}
@@ -110,6 +110,18 @@ pub record AreOperations (n : ℕ) (items : List Item) (ids : ℕ) : Type 0 wher
   pub are : items ≡ map operation_item operations
   pub each : AllByRecursion (IsOperation n) operations
   pub taken : sum_by width_of operations ≡ ids
+
+-- The bytes spell so many items, and these are such operations.
+abbrev pub SpellsOperations : ℕ → List ℕ → ℕ → ℕ → Type 0
+SpellsOperations n all count ids = (items : List Item) × Spells all items × (length items ≡ count) × AreOperations n items ids
+
+-- So many operations were read from the bytes, and so many ids are left.
+pub record AreRead (n : ℕ) (all : List ℕ) (ids read : ℕ) (now : Unread) (left : ℕ) : Type 0 where
+  pub operations : List Operation
+  pub each : AllByRecursion (IsOperation n) operations
+  pub counted : length operations ≡ read
+  pub spelled : all ≡ body operations ++ now.rest
+  pub taken : sum_by width_of operations + left ≡ ids
 
 -- Some of the items were read, and all are such operations exactly where those that are left are, with so many ids left.
 pub record LeftToRead (n : ℕ) (all : List Item) (ids read : ℕ) (now : Unread) (left : ℕ) : Type 0 where

@@ -1,11 +1,11 @@
 //! The rules of a change.
 
-ghost use Rattle.std.specs.Prelude.{◌≡◌, ◌↔◌, ◌<◌, ◌≤◌, ◌^◌, List, length, IsTrue};
-ghost use Rattle.cbor_det.specs.Item.{Item, IsSpelled, spell, Spells};
+ghost use Rattle.std.specs.Prelude.{◌≡◌, ◌↔◌, ◌<◌, ◌≤◌, length, IsTrue};
+ghost use Rattle.cbor_det.specs.Item.{Item, IsSpelled, spell};
 ghost use Rattle.model.specs.Change.{ChangeParts};
 ghost use Rattle.model.specs.Rules.{IsBody};
 ghost use Rattle.op_grammar.specs.Changes.{ChangeAnswer, CheckAnswer};
-ghost use Rattle.op_grammar.specs.Parts.{AreOperations};
+ghost use Rattle.op_grammar.specs.Parts.{SpellsOperations};
 
 use crate::head::{Head, head_of, read_said};
 use crate::operation::width_of;
@@ -41,11 +41,11 @@ pub fn read_change<'a>(alloc: Global, span: &'a [u8], n: u8) -> Result<(Head, &'
     ensures { (x : Item) → IsSpelled x → span.now ≡ spell x → ChangeAnswer n x result }
 {
     let said = read_said(alloc, span, n)?;
-    if !is_body(said.body, said.count) {
-        return Err(Rule::G6);
-    }
     if !has_operations(said.body, said.count, said.width, n) {
-        return Err(Rule::G7);
+        if is_body(said.body, said.count) {
+            return Err(Rule::G7);
+        }
+        return Err(Rule::G6);
     }
     let body = said.body;
     Ok((head_of(said), body))
@@ -53,8 +53,7 @@ pub fn read_change<'a>(alloc: Global, span: &'a [u8], n: u8) -> Result<(Head, &'
 
 /// Whether the body is short enough, and has so many items.
 fn is_body(body: &[u8], count: u64) -> bool
-    ensures exact { (p : ChangeParts) → p.body ≡ body.now → p.count ≡ count → (IsTrue result ↔ IsBody p) }
-    ensures few { IsTrue result → count < 2 ^ 32 }
+    ensures { (p : ChangeParts) → p.body ≡ body.now → p.count ≡ count → (IsTrue result ↔ IsBody p) }
 {
     if body.len() > MAX_BODY_LEN {
         return false;
@@ -65,17 +64,16 @@ fn is_body(body: &[u8], count: u64) -> bool
     }
 }
 
-/// Whether the items of a body, which are so many, are operations that take so many ids, and not too many.
+/// Whether the body is short enough, and spells so many operations that take so many ids, and not too many.
 fn has_operations(body: &[u8], count: u64, width: u64, n: u8) -> bool
-    ensures exact { (xs : List Item) → Spells body.now xs → length xs ≡ count → (IsTrue result ↔ ((width ≤ 65536) × AreOperations n xs width)) }
-    ensures few { IsTrue result → width < 2 ^ 32 }
+    ensures { IsTrue result ↔ ((length body.now ≤ 1048576) × (width ≤ 65536) × SpellsOperations n body.now count width) }
 {
-    width <= MAX_WIDTH && are_operations(body, count, width, n)
+    body.len() <= MAX_BODY_LEN && width <= MAX_WIDTH && are_operations(body, count, width, n)
 }
 
-/// Whether the items of a body, which are so many, are operations that take so many ids.
+/// Whether the bytes spell so many operations, which take so many ids.
 fn are_operations(body: &[u8], count: u64, width: u64, n: u8) -> bool
-    ensures { (xs : List Item) → Spells body.now xs → length xs ≡ count → (IsTrue result ↔ AreOperations n xs width) }
+    ensures { IsTrue result ↔ SpellsOperations n body.now count width }
 {
     let mut cursor = Cursor::new(body);
     let mut left = width;
@@ -89,5 +87,5 @@ fn are_operations(body: &[u8], count: u64, width: u64, n: u8) -> bool
         }
         left -= ids;
     }
-    left == 0
+    left == 0 && cursor.is_end()
 }

@@ -188,7 +188,9 @@ pub(crate) fn read_id_and_anchor(cursor: &mut Cursor<'_>, n: u8) -> Option<(OpId
 
 /// A child that can be moved, where one stands.
 pub(crate) fn read_child(cursor: &mut Cursor<'_>, n: u8) -> Option<OpId>
-    ensures { ReadsField (λ id. id) id_item (IsChild n) (unread cursor.old) (unread cursor.new) result }
+    ensures item { ReadsField (λ id. id) id_item (IsChild n) (unread cursor.old) (unread cursor.new) result }
+    ensures found { IfSome result (λ id. IsChild n id
+        × Took (spell (id_item id)) (unread cursor.old) (unread cursor.new)) }
 {
     let id = read_id(cursor, n)?;
     if id == ROOT || id == TRASH {
@@ -219,7 +221,9 @@ pub(crate) fn read_run(cursor: &mut Cursor<'_>, n: u8) -> Option<(OpId, u32)>
 
 /// A key, where one stands.
 pub(crate) fn read_key<'a>(cursor: &mut Cursor<'a>) -> Option<&'a str>
-    ensures { ReadsField (λ t. t.now) Item.text IsKey (unread cursor.old) (unread cursor.new) result }
+    ensures item { ReadsField (λ t. t.now) Item.text IsKey (unread cursor.old) (unread cursor.new) result }
+    ensures found { IfSome result (λ t. IsKey t.now
+        × Took (spell (Item.text t.now)) (unread cursor.old) (unread cursor.new)) }
 {
     match cursor.text() {
         Ok(key) if !key.is_empty() && key.len() <= MAX_KEY_LEN => Some(key),
@@ -338,7 +342,9 @@ pub(crate) fn read_key_and_value<'a>(cursor: &mut Cursor<'a>) -> Option<(&'a str
 
 /// Characters to type, where they stand.
 pub(crate) fn read_typed<'a>(cursor: &mut Cursor<'a>) -> Option<&'a str>
-    ensures { ReadsField (λ t. chars t.now) (λ cs. Item.text (utf8 cs)) IsTyped (unread cursor.old) (unread cursor.new) result }
+    ensures item { ReadsField (λ t. chars t.now) (λ cs. Item.text (utf8 cs)) IsTyped (unread cursor.old) (unread cursor.new) result }
+    ensures found { IfSome result (λ t. IsTyped (chars t.now)
+        × Took (spell (Item.text (utf8 (chars t.now)))) (unread cursor.old) (unread cursor.new)) }
 {
     let text = match cursor.text() {
         Ok(text) => text,

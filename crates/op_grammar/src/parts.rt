@@ -1,8 +1,8 @@
 //! What the item of a change says, read.
 
-ghost use Rattle.std.specs.Prelude.{◌≡◌};
+ghost use Rattle.std.specs.Prelude.{◌≡◌, IfSome};
 ghost use Rattle.cbor_det.specs.Item.{Item, IsSpelled, spell, bytes};
-ghost use Rattle.cbor_det.specs.Unread.{unread};
+ghost use Rattle.cbor_det.specs.Unread.{unread, Took};
 ghost use Rattle.cbor_det.specs.Rows.{ReadsField, ReadsFields};
 ghost use Rattle.op_grammar.specs.Parts.{SkipsNumbers, SkipsRow, ReadsSeven, PartsAnswer, width_body_of, width_and_body, rest_of, count_and_rest};
 
@@ -92,7 +92,8 @@ fn read_width_and_body<'a>(cursor: &mut Cursor<'a>) -> Option<(u64, &'a [u8])>
 
 /// A byte string, where one stands.
 fn read_bytes<'a>(cursor: &mut Cursor<'a>) -> Option<&'a [u8]>
-    ensures { ReadsField (λ b. b.now) bytes (λ _. Unit {0}) (unread cursor.old) (unread cursor.new) result }
+    ensures item { ReadsField (λ b. b.now) bytes (λ _. Unit {0}) (unread cursor.old) (unread cursor.new) result }
+    ensures took { IfSome result (λ b. Took (spell (bytes b.now)) (unread cursor.old) (unread cursor.new)) }
 {
     match cursor.bytes() {
         Ok(content) => Some(content),

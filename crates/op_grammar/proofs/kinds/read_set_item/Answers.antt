@@ -17,7 +17,7 @@ pub returns-in_err-node : goal.returns-in_err-node
 returns-in_err-node c = kind_stops c.args.n 7 3 (λ (p : (OpId × OpId) × Value). ((λ (p : OpId × OpId). p) p.0, value_of p.1)) (λ (y : (OpId × OpId) × model.Value). two_ids y.0 ++ (λ (v : model.Value). value_item v ∷ []) y.1) (λ (y : (OpId × OpId) × model.Value). (AreTwoIds c.args.n) y.0 × IsValue y.1) (λ _. refl) (unread c.args.cursor.now) (unread c.read_ids.new.cursor) (set_item_back c.args.n) c.from_residual.result (cc (c.from_residual.ensures)) (first_stops (λ (p : OpId × OpId). p) two_ids (AreTwoIds c.args.n) 2 (λ _. refl) value_of (λ (v : model.Value). value_item v ∷ []) IsValue 1 (unread c.args.cursor.now) (unread c.read_ids.new.cursor) (unread c.read_ids.new.cursor) None refl c.in_err-node.ensures)
 
 pub returns-in_err-value : goal.returns-in_err-value
-returns-in_err-value c = kind_stops c.args.n 7 3 (λ (p : (OpId × OpId) × Value). ((λ (p : OpId × OpId). p) p.0, value_of p.1)) (λ (y : (OpId × OpId) × model.Value). two_ids y.0 ++ (λ (v : model.Value). value_item v ∷ []) y.1) (λ (y : (OpId × OpId) × model.Value). (AreTwoIds c.args.n) y.0 × IsValue y.1) (λ _. refl) (unread c.args.cursor.now) (unread c.read_value.new.cursor) (set_item_back c.args.n) c.from_residual-in_err-value.result (cc (c.from_residual-in_err-value.ensures)) (second_stops (λ (p : OpId × OpId). p) two_ids (AreTwoIds c.args.n) 2 (λ _. refl) value_of (λ (v : model.Value). value_item v ∷ []) IsValue 1 (unread c.args.cursor.now) (unread c.read_ids.new.cursor) (unread c.read_value.new.cursor) (c.in_ok-node.node, c.in_ok-node.element) None refl c.in_ok-node.ensures (one value_of value_item IsValue (unread c.read_ids.new.cursor) (unread c.read_value.new.cursor) None c.in_err-value.ensures.item))
+returns-in_err-value c = kind_stops c.args.n 7 3 (λ (p : (OpId × OpId) × Value). ((λ (p : OpId × OpId). p) p.0, value_of p.1)) (λ (y : (OpId × OpId) × model.Value). two_ids y.0 ++ (λ (v : model.Value). value_item v ∷ []) y.1) (λ (y : (OpId × OpId) × model.Value). (AreTwoIds c.args.n) y.0 × IsValue y.1) (λ _. refl) (unread c.args.cursor.now) (unread c.read_value.new.cursor) (set_item_back c.args.n) c.from_residual-in_err-value.result (cc (c.from_residual-in_err-value.ensures)) (second_stops (λ (p : OpId × OpId). p) two_ids (AreTwoIds c.args.n) 2 (λ _. refl) value_of (λ (v : model.Value). value_item v ∷ []) IsValue 1 (unread c.args.cursor.now) (unread c.read_ids.new.cursor) (unread c.read_value.new.cursor) (c.in_ok-node.node, c.in_ok-node.element) None refl c.in_ok-node.ensures (one value_of value_item IsValue (unread c.read_ids.new.cursor) (unread c.read_value.new.cursor) None c.in_err-value.ensures.item tt))
 
 pub returns : goal.returns
-returns c = kind_read c.args.n 7 3 (λ (p : (OpId × OpId) × Value). ((λ (p : OpId × OpId). p) p.0, value_of p.1)) (λ (y : (OpId × OpId) × model.Value). two_ids y.0 ++ (λ (v : model.Value). value_item v ∷ []) y.1) (λ (y : (OpId × OpId) × model.Value). (AreTwoIds c.args.n) y.0 × IsValue y.1) (λ _. refl) (unread c.args.cursor.now) (unread c.read_value.new.cursor) (λ (y : (OpId × OpId) × model.Value). set_item y.0.0 y.0.1 y.1) (set_item_forth c.args.n) ((c.in_ok-node.node, c.in_ok-node.element), c.in_ok-value.value) (ops.SetItem c.in_ok-node.node c.in_ok-node.element c.in_ok-value.value) refl (both_read (λ (p : OpId × OpId). p) two_ids (AreTwoIds c.args.n) 2 (λ _. refl) value_of (λ (v : model.Value). value_item v ∷ []) IsValue 1 (unread c.args.cursor.now) (unread c.read_ids.new.cursor) (unread c.read_value.new.cursor) (c.in_ok-node.node, c.in_ok-node.element) c.in_ok-value.value c.in_ok-node.ensures (one value_of value_item IsValue (unread c.read_ids.new.cursor) (unread c.read_value.new.cursor) (Some c.in_ok-value.value) c.in_ok-value.ensures.item))
+returns c = kind_read c.args.n 7 3 (λ (p : (OpId × OpId) × Value). ((λ (p : OpId × OpId). p) p.0, value_of p.1)) (λ (y : (OpId × OpId) × model.Value). two_ids y.0 ++ (λ (v : model.Value). value_item v ∷ []) y.1) (λ (y : (OpId × OpId) × model.Value). (AreTwoIds c.args.n) y.0 × IsValue y.1) (λ _. refl) (unread c.args.cursor.now) (unread c.read_value.new.cursor) (λ (y : (OpId × OpId) × model.Value). set_item y.0.0 y.0.1 y.1) (set_item_forth c.args.n) ((c.in_ok-node.node, c.in_ok-node.element), c.in_ok-value.value) (ops.SetItem c.in_ok-node.node c.in_ok-node.element c.in_ok-value.value) refl (both_read (λ (p : OpId × OpId). p) two_ids (AreTwoIds c.args.n) 2 (λ _. refl) value_of (λ (v : model.Value). value_item v ∷ []) IsValue 1 (unread c.args.cursor.now) (unread c.read_ids.new.cursor) (unread c.read_value.new.cursor) (c.in_ok-node.node, c.in_ok-node.element) c.in_ok-value.value c.in_ok-node.ensures (one value_of value_item IsValue (unread c.read_ids.new.cursor) (unread c.read_value.new.cursor) (Some c.in_ok-value.value) c.in_ok-value.ensures.item c.in_ok-value.ensures.found))
