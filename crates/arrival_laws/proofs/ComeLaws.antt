@@ -85,7 +85,7 @@ fresh_with list x (y ∷ ys) l f = (
   fresh_with list x ys l.1 f.1,
 )
 
-come : (s : State) (list : List Atom) (d : State) (xs : List Atom) → IsMadeOf s list → Has Any d (after s list) → RightAlong d xs → AllSingle xs → Rises xs → AllByRecursion (λ x. AreBelow s x.id) xs → AllFresh list xs → ComeInTurn s list xs
+pub come : (s : State) (list : List Atom) (d : State) (xs : List Atom) → IsMadeOf s list → Has Any d (after s list) → RightAlong d xs → AllSingle xs → Rises xs → AllByRecursion (λ x. AreBelow s x.id) xs → AllFresh list xs → ComeInTurn s list xs
 come s list d [] m w right one rises below fresh = tt
 come s list d (x ∷ xs) m w right one rises below fresh =
     let here = right_there Any d (after s list) x (λ q _. tt) w right.0 in

@@ -18,7 +18,7 @@ use Rattle.tree_log.specs.Moves.{AllReferBack, IsFresh as IsFreshMove, after_mov
 use Rattle.tree_log.specs.Steps.{moves_of}
 use Rattle.tree_log.specs.declared.moves.TreeMove.{TreeMove}
 use Rattle.tree_log.proofs.StepLaws.{node_steps_are_moves}
-use Rattle.doc_store.proofs.ComeLaws.{come}
+use Rattle.arrival_laws.proofs.ComeLaws.{come}
 use Rattle.doc_store.specs.Kept.{HavePositions, Kept, state_of}
 use Rattle.doc_store.specs.Documents.{AllMayBeDone, HasNoRow, IsDocument, IsFormed, IsOfTree, IsOwnId, Joins, all_late, parts_of}
 use Rattle.doc_store.proofs.JoinLaws.{may_all_be_done}

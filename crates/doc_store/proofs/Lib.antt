@@ -8,4 +8,3 @@ pub mod ViewLaws
 pub mod PlanLaws
 pub mod ForgetLaws
 pub mod FreshLaws
-pub mod ComeLaws

@@ -1,18 +1,14 @@
 -- Changes that keep their places in a file, and the first rule that others break.
 use Rattle.std.proofs.Common.{◌≡◌, ◌≢◌, ℕ, zero, suc, ◌+◌, ◌^◌, ◌<◌, ◌≤◌, ◌==◌, Bool, true, false, cond, List, [], ◌∷◌, ◌++◌, length, refl, sym, ap, ◌∙◌, arith, inl, inr, eq-eqb}
 use Rattle.std.specs.Prelude.{Option, None, Some, slice_get, slice_index}
-use Rattle.std.specs.List.{AllByRecursion, last_or}
+use Rattle.std.specs.List.{last_or}
 use Rattle.cbor_det.specs.Item.{Item, IsSpelled, spell}
 use Rattle.std.proofs.lemmas.Bool.{eqb-true}
-use Rattle.std.proofs.lemmas.List.{length-append}
-use Rattle.cbor_det.specs.Item as cbor
-use Rattle.cbor_det.proofs.PlainLaws.{Plain, plain_map, spell_some_bytes}
 use Rattle.cbor_det.proofs.SequenceLaws.{spell_unique}
 use Rattle.file_laws.proofs.BodyLaws.{plain_spelled}
-use Rattle.model.specs.Value.{numbers_item}
-use Rattle.model.specs.Operation.{Operation, operation_item}
+use Rattle.file_laws.proofs.FileLaws.{change_plain}
 use Rattle.model.specs.Base.{Base}
-use Rattle.model.specs.Change.{Change, IsChange, change_item, body}
+use Rattle.model.specs.Change.{Change, IsChange, change_item}
 use Rattle.model.specs.Rules.{Rule, F4, F5, BreaksFirst, KeepsAll, KeepsChange, change_rules}
 use Rattle.model.specs.File.{Kind, member_file, bundle, snapshot, KeepsPlace, IsNextBehind}
 use Rattle.file_laws.proofs.RuleLaws.{changes_keep}
@@ -31,19 +27,8 @@ last_at o (y ∷ z ∷ zs) (suc k) x size e = last_at (Some y) (z ∷ zs) k x (o
 
 -- ---- changes may stand in a sequence
 
-operations_short : (os : List Operation) → length os ≤ length (body os)
-operations_short [] = omega arith
-operations_short (o ∷ os) = omega (arith, operations_short os, spell_some_bytes (operation_item o), length-append (spell (operation_item o)) (body os))
-
-causes_plain : (ns : List ℕ) → AllByRecursion (λ count. count < 2 ^ 32) ns → Plain (numbers_item ns) 1
-causes_plain ns h = plain_map (λ count. count < 2 ^ 32) cbor.unsigned 0 (λ count lt. omega (arith, lt)) ns h
-
-change_plain : (n : ℕ) (c : Change) → n ≤ 32 → IsChange n c → Plain (change_item c) 2
-change_plain n c few k =
-    (omega (arith, k.member), (omega (arith, k.number_most), (omega (arith, k.time_most), (causes_plain c.causes k.causes_most, (omega (arith, operations_short c.operations, k.body_most), (omega (arith, k.width_most), (tt, tt)))))))
-
 pub change_is_spelled : (n : ℕ) (c : Change) → n ≤ 32 → IsChange n c → length (spell (change_item c)) < 2 ^ 64 → IsSpelled (change_item c)
-change_is_spelled n c few k short = plain_spelled (change_item c) 2 (omega arith) (change_plain n c few k) short
+change_is_spelled n c few k short = plain_spelled (change_item c) 2 (omega arith) (change_plain n c (omega (arith, few)) k) short
 
 -- ---- the first broken rule
 

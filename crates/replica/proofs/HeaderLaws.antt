@@ -1,16 +1,14 @@
 -- Headers, from the reads of their fields.
 use Rattle.std.proofs.Common.{◌≡◌, ◌≢◌, ◌⊎◌, ℕ, zero, suc, ◌^◌, ◌<◌, ◌≤◌, List, [], ◌++◌, length, refl, sym, ap, subst, ◌∙◌, append_assoc, arith, lit<, inl, inr}
-use Rattle.std.specs.Prelude.{Result, Ok, Err, codes, IsUtf8}
-use Rattle.std.specs.List.{AllByRecursion}
-use Rattle.std.specs.Char.{encode_utf8}
+use Rattle.std.specs.Prelude.{Result, Ok, Err, codes}
 use Rattle.std.proofs.lemmas.List.{length-append, append-nil, append_cancel_left}
 use Rattle.cbor_det.specs.Head.{head}
 use Rattle.cbor_det.specs.Item as cbor
 use Rattle.cbor_det.specs.Item.{Item, spell, IsSpelled}
 use Rattle.cbor_det.specs.Unread.{Unread}
-use Rattle.cbor_det.proofs.PlainLaws.{Plain, plain_map}
 use Rattle.cbor_det.proofs.SequenceLaws.{spell_unique}
 use Rattle.file_laws.proofs.BodyLaws.{plain_spelled}
+use Rattle.file_laws.proofs.FileLaws.{header_plain}
 use Rattle.model.specs.Value.{numbers_item}
 use Rattle.model.specs.File.{Kind, member_file, bundle, snapshot, kind_number, Header, header_item, IsHeader}
 use Rattle.replica.specs.Heads.{kind_of, header_by}
@@ -97,22 +95,6 @@ is_header h b k = record {
     others (inr none) ne = none
 
 -- ---- headers may stand in a sequence
-
-outline_is : IsUtf8 (codes "outline")
-unfolding encode_utf8
-outline_is = (codes "outline", (refl, refl))
-
-kind_small : (k : Kind) → kind_number k < 2 ^ 64
-kind_small member_file = lit< tt
-kind_small bundle = lit< tt
-kind_small snapshot = lit< tt
-
-mine_plain : (n : ℕ) (ns : List ℕ) → n ≤ 32 → AllByRecursion (λ m. m < n) ns → Plain (numbers_item ns) 1
-mine_plain n ns few h = plain_map (λ m. m < n) cbor.unsigned 0 (λ m lt. omega (arith, lt)) ns h
-
-header_plain : (h : Header) → IsHeader h → Plain (header_item h) 2
-header_plain h k =
-    (outline_is, (omega (arith, k.version), (kind_small h.kind, (tt, (omega (arith, k.members_most), (mine_plain h.members h.mine k.members_most k.mine_below, (omega (arith, k.kept_most), (omega (arith, k.waiting_most), tt))))))))
 
 pub header_is_spelled : (h : Header) → IsHeader h → length (spell (header_item h)) < 2 ^ 64 → IsSpelled (header_item h)
 header_is_spelled h k short = plain_spelled (header_item h) 2 (omega arith) (header_plain h k) short
