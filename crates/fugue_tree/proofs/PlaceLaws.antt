@@ -15,7 +15,7 @@ use Rattle.walk_laws.proofs.Walks.{key_cases}
 use Rattle.walk_laws.proofs.TreeWalks.{lesser}
 use Rattle.walk_laws.proofs.InsertionLaws.{child_found, leftmost_stands_next}
 use Rattle.fugue_tree.specs.declared.children.Child.{Child}
-use Rattle.fugue_tree.specs.Tree.{at, child_cmp, hangs_so, IsKept, IsFirstAt, IsFirstChild}
+use Rattle.fugue_tree.specs.Tree.{at, child_cmp, hangs_so, AreChildren, IsFirstAt, IsFirstChild}
 use Rattle.fugue_tree.proofs.ChildLaws.{sides_same, child_is, is_child_of-at}
 
 abbrev there_at : OpId → Side → Anchor
@@ -30,12 +30,12 @@ hangs_there (Some a) on side id e =
     let same_side : a.side ≡ side = sides_same a.side side (sym (ap (λ (c : Child). c.is_right) same)) in
     ap Some (λ i. record { on = same_on i; side = same_side i })
 
-module _ (rows : Rows) (s : BTreeSet Child) (kept : IsKept rows s) (on : OpId) (side : Side) where
+module _ (rows : Rows) (s : BTreeSet Child) (same : AreChildren rows s) (on : OpId) (side : Side) where
   pub there : (q : OpId) → contains child_cmp s (at on side q) ≡ true → anchor_of rows q ≡ Some (there_at on side)
-  there q e = hangs_there (anchor_of rows q) on side q (sym (kept.same (at on side q)) ∙ e)
+  there q e = hangs_there (anchor_of rows q) on side q (sym (same (at on side q)) ∙ e)
 
   pub held : (q : OpId) → anchor_of rows q ≡ Some (there_at on side) → contains child_cmp s (at on side q) ≡ true
-  held q e = kept.same (at on side q) ∙ ap (λ o. hangs_so o (at on side q)) e ∙ is_child_of-at on side q
+  held q e = same (at on side q) ∙ ap (λ o. hangs_so o (at on side q)) e ∙ is_child_of-at on side q
 
   pub first_is : (o : Option OpId) → IsFirstAt s on side o → IsFirstChild rows on side o
   first_is None h = λ q e. let both : true ≡ false = sym (held q e) ∙ h q in absurd (let c : true ≡ false = both in cc)

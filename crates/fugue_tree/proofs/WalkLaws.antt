@@ -25,7 +25,7 @@ use Rattle.walk_laws.proofs.TreeWalks.{lesser}
 use Rattle.fugue_tree.specs.declared.children.Child.{Child}
 use Rattle.fugue_tree.specs.declared.walking.Task.{Task}
 use Rattle.fugue_tree.specs.declared.walking.Task.TheVariants.{Visit, Give}
-use Rattle.fugue_tree.specs.Tree.{at, child_cmp, child_eq, is_child_of, children_at, tasks_of, IsKept}
+use Rattle.fugue_tree.specs.Tree.{at, child_cmp, child_eq, is_child_of, children_at, tasks_of, AreChildren}
 use Rattle.fugue_tree.proofs.ChildLaws.{bool_cases, child_is, child_same, is_child_of-at, one_place, ids}
 use Rattle.fugue_tree.proofs.PlaceLaws.{above, falls, above_row, there, held}
 
@@ -35,14 +35,14 @@ or_true false b h = h
 
 -- ---- lists of ids that rise
 
-abbrev RisesFrom : OpId → List OpId → Type 0
+abbrev pub RisesFrom : OpId → List OpId → Type 0
 RisesFrom i js = AllByRecursion (λ j. id_lt i j ≡ true) js
 
-abbrev Rising : List OpId → Type 0
+abbrev pub Rising : List OpId → Type 0
 Rising [] = Unit {0}
 Rising (i ∷ is) = RisesFrom i is × Rising is
 
-rising_same : (is js : List OpId) → Rising is → Rising js → ((i : OpId) → In i is → In i js) → ((i : OpId) → In i js → In i is) → is ≡ js
+pub rising_same : (is js : List OpId) → Rising is → Rising js → ((i : OpId) → In i is → In i js) → ((i : OpId) → In i js → In i is) → is ≡ js
 rising_same [] [] r s h k = refl
 rising_same [] (j ∷ js) r s h k = absurd (k j (inl refl))
 rising_same (i ∷ is) [] r s h k = absurd (h i (inl refl))
@@ -79,7 +79,7 @@ below_picked p i (e ∷ es) h =
     let k = both _ _ h in
     elim (p e) as (λ b. RisesFrom i (firsts (cond b (e ∷ filter p es) (filter p es)))) [ true ↦ (k.0, below_picked p i es k.1) | false ↦ below_picked p i es k.1 ]
 
-hanging_rise : (p : OpId × Anchor → Bool) (es : Rows) → is_sorted id_cmp es ≡ true → Rising (picked p es)
+pub hanging_rise : (p : OpId × Anchor → Bool) (es : Rows) → is_sorted id_cmp es ≡ true → Rising (picked p es)
 hanging_rise p [] h = tt
 hanging_rise p (e ∷ es) h =
     let k = both _ _ h in
@@ -136,25 +136,27 @@ module _ (on : OpId) (side : Side) where
             or_true (child_eq (at on side i) c) (list_any (λ d. child_eq (at on side i) d) cs) (among_child i cs rest)
       ]
 
-module _ (rows : Rows) (s : BTreeSet Child) (kept : IsKept rows s) (sorted : IsStrictlySortedBy child_cmp s.keys) (on : OpId) (side : Side) where
-  row_among : (i : OpId) → In i (hanging rows on side) → anchor_of rows i ≡ Some (record { on = on; side = side })
+-- rows that rise, and those that hang there
+module _ (rows : Rows) (rising : is_sorted id_cmp rows ≡ true) (on : OpId) (side : Side) where
+  pub row_among : (i : OpId) → In i (hanging rows on side) → anchor_of rows i ≡ Some (record { on = on; side = side })
   row_among i h =
-      let p = in_all (Passes (hangs on side) rows) i (hanging rows on side) h (picked_pass (hangs on side) rows kept.tree.rising) in
+      let p = in_all (Passes (hangs on side) rows) i (hanging rows on side) h (picked_pass (hangs on side) rows rising) in
       let t = both _ _ p.2 in
       let on_is : p.0.on ≡ on = id_eq-exact p.0.on on t.0 in
       let side_is : p.0.side ≡ side = same_side-exact p.0.side side t.1 in
       p.1 ∙ ap Some (λ k. record { on = on_is k; side = side_is k })
 
-  among_rows : (i : OpId) → anchor_of rows i ≡ Some (record { on = on; side = side }) → In i (hanging rows on side)
+  pub among_rows : (i : OpId) → anchor_of rows i ≡ Some (record { on = on; side = side }) → In i (hanging rows on side)
   among_rows i e =
       let t : hangs on side (i, record { on = on; side = side }) ≡ true = rw (id_eq-itself on, same_side-itself side) refl in
       pass_picked (hangs on side) rows i (record { on = on; side = side }) e t
 
+module _ (rows : Rows) (s : BTreeSet Child) (rising : is_sorted id_cmp rows ≡ true) (same : AreChildren rows s) (sorted : IsStrictlySortedBy child_cmp s.keys) (on : OpId) (side : Side) where
   pub children_are : children_at s on side ≡ hanging rows on side
   children_are =
-      rising_same (children_at s on side) (hanging rows on side) (children_rise on side s.keys sorted) (hanging_rise (hangs on side) rows kept.tree.rising)
-      (λ i h. among_rows i (there rows s kept on side i (among_child on side i s.keys h)))
-      (λ i h. child_among on side i s.keys (held rows s kept on side i (row_among i h)))
+      rising_same (children_at s on side) (hanging rows on side) (children_rise on side s.keys sorted) (hanging_rise (hangs on side) rows rising)
+      (λ i h. among_rows rows rising on side i (there rows s same on side i (among_child on side i s.keys h)))
+      (λ i h. child_among on side i s.keys (held rows s same on side i (row_among rows rising on side i h)))
 
 -- ---- depth
 

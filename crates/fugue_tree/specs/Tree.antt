@@ -81,10 +81,14 @@ abbrev pub hangs_so : Option Anchor → Child → Bool
 hangs_so None c = false
 hangs_so (Some a) c = is_child_of a.on a.side c
 
--- The children are the rows of an insertion tree, by what they hang on.
+-- The children are these rows, by what they hang on.
+abbrev pub AreChildren : Rows → BTreeSet Child → Type 0
+AreChildren rows children = (c : Child) → contains child_cmp children c ≡ hangs_so (anchor_of rows c.id) c
+
+-- The children are the rows of an insertion tree.
 pub record IsKept (rows : Rows) (children : BTreeSet Child) : Type 0 where
   pub tree : IsInsertionTree rows
-  pub same : (c : Child) → contains child_cmp children c ≡ hangs_so (anchor_of rows c.id) c
+  pub same : AreChildren rows children
 
 -- the children that hang there, by rising ids
 abbrev pub children_at : BTreeSet Child → OpId → Side → List OpId

@@ -1,11 +1,11 @@
-// The rows of a tree by what they hang on.
+//! The rows of a tree by what they hang on.
 ghost use Rattle.std.specs.Prelude.{◌≡◌, ◌↔◌, IsTrue};
 ghost use Rattle.fugue_tree.specs.Tree.{right_side, IsFirstAt};
 
 use op_ids::{OpId, ROOT, Side};
 use std::collections::BTreeSet;
 
-// A row, behind its anchor and its side. In this order the rows at each side of each anchor stand by their ids.
+/// A row, behind its anchor and its side. In this order the rows at each side of each anchor stand by their ids.
 #[derive(Clone, Copy, PartialEq, Eq, PartialOrd, Ord)]
 pub struct Child {
     pub anchor: OpId,
@@ -14,7 +14,7 @@ pub struct Child {
 }
 
 impl Child {
-    // Whether the row hangs there.
+    /// Whether the row hangs there.
     pub fn hangs(&self, anchor: OpId, is_right: bool) -> bool
         ensures { IsTrue result ↔ (self.now.anchor ≡ anchor) × (self.now.is_right ≡ is_right) }
     {
@@ -22,7 +22,7 @@ impl Child {
     }
 }
 
-// The row as a child of its anchor.
+/// The row as a child of its anchor.
 pub fn child_at(anchor: OpId, side: Side, id: OpId) -> Child
     ensures { result ≡ record { anchor = anchor; is_right = right_side side; id = id } }
 {
@@ -33,7 +33,7 @@ pub fn child_at(anchor: OpId, side: Side, id: OpId) -> Child
     }
 }
 
-// The least row that hangs there.
+/// The least row that hangs there.
 pub fn first_child(children: &BTreeSet<Child>, anchor: OpId, side: Side) -> Option<OpId>
     ensures { IsFirstAt children.now anchor side result }
 {

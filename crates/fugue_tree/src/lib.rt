@@ -1,9 +1,9 @@
 //! The insertion tree: rows below a head, the order in which they are read, and where a new row goes.
 #![tactic(auto)]
 
-mod children;
+pub mod children;
 mod tree;
-mod walking;
+pub mod walking;
 
 pub use tree::{PlaceRow, Tree};
 

@@ -1,4 +1,4 @@
-// What is left of a walk, as a stack of tasks.
+//! What is left of a walk, as a stack of tasks.
 ghost use Rattle.std.specs.Prelude.{◌≡◌, ◌++◌, OnOk, map};
 ghost use Rattle.std.specs.BTreeSet as sets;
 ghost use Rattle.fugue_tree.specs.Tree.{child_cmp, children_at};
@@ -9,14 +9,14 @@ use op_ids::{OpId, ROOT, Side};
 use std::alloc::AllocError;
 use std::collections::BTreeSet;
 
-// To walk a row with those below it, or to give out a row alone.
+/// To walk a row with those below it, or to give out a row alone.
 #[derive(Clone, Copy)]
 pub enum Task {
     Visit(OpId),
     Give(OpId),
 }
 
-// Adds the visits of the rows that hang there, by rising ids.
+/// Adds the visits of the rows that hang there, by rising ids.
 pub fn push_visits(
     children: &BTreeSet<Child>,
     anchor: OpId,

@@ -6,4 +6,4 @@ use Rattle.fugue_tree.proofs.tree.Tree.first.Goals as goal
 pub returns-clause-first : goal.returns-clause-first
 returns-clause-first c =
     subst (λ (t : OwnedRows). IsFirstChild t.rows c.args.anchor c.args.side c.first_child.result) c.self.view_is
-    (first_is (kept_rows c.self.inside.rows.entries) c.self.inside.children c.self.invariant c.args.anchor c.args.side c.first_child.result c.first_child.ensures)
+    (first_is (kept_rows c.self.inside.rows.entries) c.self.inside.children c.self.invariant.same c.args.anchor c.args.side c.first_child.result c.first_child.ensures)
