@@ -12,3 +12,6 @@ mod ready;
 
 pub use inbox::{Inbox, Offered};
 pub use names::FullNames;
+
+#[cfg(test)]
+mod tests;

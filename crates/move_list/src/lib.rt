@@ -8,3 +8,6 @@ mod lists;
 pub use fugue_tree::PlaceRow;
 pub use lists::{ElementRow, Lists};
 pub use op_grammar::{OwnValue, Value};
+
+#[cfg(test)]
+mod tests;
