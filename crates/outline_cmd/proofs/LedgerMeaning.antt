@@ -54,15 +54,15 @@ use Rattle.outline_cmd.proofs.StepLaws.{on}
 -- ---- steps that are done
 
 -- Where steps are done, the first is.
-on_done : {A B : Type 0} (first : Result A Status) (next : A → Result B Status) (y : B) → Ok y ≡ on first next → (x : A) × (first ≡ Ok x) × (Ok y ≡ next x)
+pub on_done : {A B : Type 0} (first : Result A Status) (next : A → Result B Status) (y : B) → Ok y ≡ on first next → (x : A) × (first ≡ Ok x) × (Ok y ≡ next x)
 on_done (Ok x) next y e = (x, refl, e)
 on_done (Err refusal) next y e = absurd cc
 
-provided_done : (b : Bool) (refusal : Status) (u : Unit {0}) → provided b refusal ≡ Ok u → b ≡ true
+pub provided_done : (b : Bool) (refusal : Status) (u : Unit {0}) → provided b refusal ≡ Ok u → b ≡ true
 provided_done true refusal u e = refl
 provided_done false refusal u e = absurd cc
 
-told_done : {A : Type 0} (made : Result A Unmade) (x : A) → told made ≡ Ok x → made ≡ Ok x
+pub told_done : {A : Type 0} (made : Result A Unmade) (x : A) → told made ≡ Ok x → made ≡ Ok x
 told_done (Ok y) x e = cc
 told_done (Err w) x e = absurd cc
 
@@ -127,7 +127,7 @@ value_form (v.integer n) is = is
 value_form (v.text t) is = is
 value_form (v.bytes b) is = is
 
-edit_form : (e : Edit) → IsWordEdit e → IsEdit e
+pub edit_form : (e : Edit) → IsWordEdit e → IsEdit e
 edit_form (edits.new_child parent i) is = tt
 edit_form (edits.move_child child parent i) is = tt
 edit_form (edits.trash_child child) is = tt
@@ -194,7 +194,7 @@ abbrev outcome_stores : Result Outcome Status → Option File
 outcome_stores (Ok o) = o.stored
 outcome_stores (Err refusal) = None
 
-edit_done : (f : File) (e : Edit) (o : Outcome) → Ok o ≡ edited e f → (cs : List Change) × (made_edit f.members (held_in f) f.mine e ≡ Ok cs) × (o.stored ≡ Some (with_changes f cs))
+pub edit_done : (f : File) (e : Edit) (o : Outcome) → Ok o ≡ edited e f → (cs : List Change) × (made_edit f.members (held_in f) f.mine e ≡ Ok cs) × (o.stored ≡ Some (with_changes f cs))
 edit_done f e o is =
     let (u, some, next) = on_done (held_by_some f) _ o is in
     let (w, fits, more) = on_done (fitting 1 f) _ o next in

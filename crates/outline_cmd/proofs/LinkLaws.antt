@@ -1,12 +1,10 @@
 -- What the code makes of the bytes of a file is what the command means over them.
-use Rattle.std.proofs.Common.{◌≡◌, ℕ, ◌<◌, ◌≤◌, ◌++◌, Bool, true, false, cond, eqb, arith, List, [], ◌∷◌, length, Option, None, Some, Result, Ok, Err, refl, sym, ap, subst, ◌∙◌}
-use Rattle.std.specs.Prelude.{slice_get, not}
+use Rattle.std.proofs.Common.{◌≡◌, ℕ, ◌<◌, ◌≤◌, Bool, true, false, cond, eqb, arith, List, [], ◌∷◌, length, Option, None, Some, Result, Ok, Err, refl, sym, ap, subst, ◌∙◌}
+use Rattle.std.specs.Prelude.{not}
 use Rattle.std.proofs.lemmas.Bool.{ne_eqb}
 use Rattle.std.specs.List.{list_all, AllByRecursion}
 use Rattle.std.proofs.lemmas.List.{append-nil}
-use Rattle.op_ids.specs.Order.{root_id, id_eq}
-use Rattle.op_ids.proofs.OrderLaws.{id_eq-exact}
-use Rattle.model.specs.Value.{Value, null}
+use Rattle.model.specs.Operation.{Operation}
 use Rattle.model.specs.Change.{Change}
 use Rattle.model.specs.State.{State, replay}
 use Rattle.model.specs.View.{view}
@@ -14,25 +12,26 @@ use Rattle.model.specs.Text.{made_line, show_text}
 use Rattle.model.specs.Held.{Refused, held}
 use Rattle.model.specs.Ledger.{greatest_time}
 use Rattle.model.specs.File.{File, Kind, file_limit}
-use Rattle.model.specs.Edit.{Edit, WrongEdit, put_value, unset_key, wrong_key, wrong_value}
-use Rattle.model.specs.Command.{Command, Unmade, wrong, clock_full, clocked, one_made, made_edit, found, edit, ack, show, status, log, bundle_since, deliver, trim, snapshot_of, release, begin_from, check, items}
-use Rattle.model.specs.Reading.{held_in, state_in, with_changes}
+use Rattle.model.specs.Edit.{Edit, WrongEdit, plan, edit_fault}
+use Rattle.model.specs.Command.{Command, Unmade, clock_full, one_made, planned, made_edit, found, edit, ack, show, status, log, bundle_since, deliver, trim, snapshot_of, release, begin_from, check, items}
+use Rattle.model.specs.Reading.{held_in, state_in, unfit_in, with_changes}
 use Rattle.outline_words.specs.Table.{Order, command, play, sample}
 use Rattle.replica.specs.declared.fault.MemberFault.TheVariants.{Nobody}
 use Rattle.outline_cmd.specs.declared.status.Status.{Status}
 use Rattle.outline_cmd.specs.declared.status.Status.TheVariants as s
-use Rattle.outline_cmd.specs.Scope.{taken_edit, taken_order, taken_editor}
-use Rattle.outline_cmd.specs.Outcome.{Outcome, provided, told, refused_told, with_made_lines, edited, shown}
+use Rattle.outline_cmd.specs.Scope.{taken_order, taken_editor}
+use Rattle.outline_cmd.specs.Outcome.{Outcome, printed, provided, told, refused_told, fitting, with_made_lines, edited, shown}
 use Rattle.outline_cmd.specs.Meaning.{exactly, Continues, Roles, roles, reads, Loaded, whole, Loads, read, input_bytes, file_of, opened, order_made, Answer, answered, member_files, based_files, all_files}
-use Rattle.outline_cmd.specs.Edits.{with_change, storing, editor_among, faultless, checked_put, clocked_in, root_put, put_in, edited_in}
+use Rattle.outline_cmd.specs.Edits.{with_change, storing, editor_among, unless_wrong, clocked_in, edited_in}
 use Rattle.outline_cmd.specs.Stages.{Refuses}
 use Rattle.outline_cmd.specs.Tasks.{over, order_made_of}
+use Rattle.outline_cmd.proofs.EditLaws.{by_test}
 use Rattle.outline_cmd.proofs.KeptLaws.{IsSingle}
 use Rattle.outline_cmd.proofs.Loads.{read_held}
 use Rattle.outline_cmd.proofs.MeaningLaws.{read_is}
-use Rattle.outline_cmd.proofs.StageLaws.{refuses_first, refuses_next}
-use Rattle.outline_cmd.proofs.StepLaws.{on, one_outcome, some_outcome}
-use Rattle.outline_cmd.proofs.MadeLaws.{change_made, state_is, none_unfit, put_made, unset_made, stored_is}
+use Rattle.outline_cmd.proofs.StageLaws.{refuses_first, refuses_next, refuses_by}
+use Rattle.outline_cmd.proofs.StepLaws.{on, some_outcome}
+use Rattle.outline_cmd.proofs.MadeLaws.{change_made, state_is, edit_planned, stored_is}
 
 -- ---- answers and outcomes
 
@@ -40,78 +39,67 @@ use Rattle.outline_cmd.proofs.MadeLaws.{change_made, state_is, none_unfit, put_m
 abbrev pub answer_told : Roles → Result Outcome Status → Result Answer Status
 answer_told r o = on o (λ x. Ok (answered r x))
 
--- ---- an edit, as its parts give it
+-- ---- an edit, step by step
 
--- the code's answer, by the members that the file holds and the fault of the key and the value
-abbrev code_of : List ℕ → File → List ℕ → Value → Option WrongEdit → List ℕ → Result Answer Status
-code_of name f key value fault mine =
-    on (editor_among mine f.kept) (λ m. on (faultless fault) (λ u. on (clocked_in f m (root_put key value)) (λ c. Ok (storing 1 name (with_change f c) (made_line c)))))
+-- the code's answer, by what is kept that doesn't fit, the fault of the edit, its operations, and the members that the file holds
+abbrev code_of : List ℕ → File → Option Refused → Option WrongEdit → List Operation → List ℕ → Result Answer Status
+code_of name f unfit fault os mine =
+    on (editor_among mine f.kept) (λ m. on (on (refused_told 1 unfit) (λ u. unless_wrong fault os)) (λ l. on (clocked_in f m l) (λ c. Ok (storing 1 name (with_change f c) (made_line c)))))
 
-put_in_is : (name : List ℕ) (f : File) (key : List ℕ) (value : Value) (r : Result Answer Status) → put_in name f key value r
-    → r ≡ code_of name f key value (slice_get (wrong_key key ++ wrong_value value) 0) f.mine
-put_in_is name f key value r steps =
-    let made : Change → Result Answer Status = λ c. Ok (storing 1 name (with_change f c) (made_line c)) in
-    let clocked_made : ℕ → Unit {0} → Result Answer Status = λ m u. on (clocked_in f m (root_put key value)) made in
-    one_outcome (editor_among f.mine f.kept) _ (λ m. on (checked_put key value) (clocked_made m))
-    (λ m o rest. one_outcome (checked_put key value) _ (clocked_made m) (λ u p more. one_outcome (clocked_in f m (root_put key value)) _ made (λ c q last. last) p more) o rest)
-    r steps
-
--- what is meant, by the same, the fault of what is kept, and what is made
-abbrev meant_of : File → List ℕ → Option Refused → Result (List Change) Unmade → Result Outcome Status
-meant_of f mine unfit made =
+-- what is meant, by the same and by what is made
+abbrev meant_of : File → Option Refused → Result (List Change) Unmade → List ℕ → Result Outcome Status
+meant_of f unfit made mine =
     on (taken_editor mine f.kept) (λ u. on (provided (not (eqb (length mine) 0)) (s.Member Nobody)) (λ v. on (refused_told 1 unfit) (λ w. on (told made) (with_made_lines f))))
 
--- what is made of an edit with this fault, whose operations put this on the root
-abbrev put_planned : File → ℕ → List ℕ → Value → Option WrongEdit → Result (List Change) Unmade
-put_planned f m key value (Some w) = Err (wrong w)
-put_planned f m key value None = one_made (clocked f.members (held f.members f.kept) m (root_put key value))
-
-clock_link : (name : List ℕ) (f : File) (m : ℕ) (key : List ℕ) (value : Value) (early : Bool) (full : Unmade) → with_changes f (change_made f m (root_put key value) ∷ []) ≡ with_change f (change_made f m (root_put key value))
-    → on (told (cond early (Ok (change_made f m (root_put key value))) (Err full))) (λ c. Ok (storing 1 name (with_change f c) (made_line c)))
-    ≡ answer_told (reads name) (on (told (one_made (cond early (Ok (change_made f m (root_put key value))) (Err full)))) (with_made_lines f))
-clock_link name f m key value true full is =
-    let text = append-nil (made_line (change_made f m (root_put key value))) in
+clock_link : (name : List ℕ) (f : File) (m : ℕ) (os : List Operation) (early : Bool) (full : Unmade) → with_changes f (change_made f m os ∷ []) ≡ with_change f (change_made f m os)
+    → on (told (cond early (Ok (change_made f m os)) (Err full))) (λ c. Ok (storing 1 name (with_change f c) (made_line c)))
+    ≡ answer_told (reads name) (on (told (one_made (cond early (Ok (change_made f m os)) (Err full)))) (with_made_lines f))
+clock_link name f m os true full is =
+    let text = append-nil (made_line (change_made f m os)) in
     λ i. Ok (storing 1 name (sym is i) (sym text i))
-clock_link name f m key value false full is = refl
+clock_link name f m os false full is = refl
 
-fault_link : (name : List ℕ) (f : File) (m : ℕ) (key : List ℕ) (value : Value) (fault : Option WrongEdit) → IsSingle f → m < f.members
-    → on (faultless fault) (λ u. on (clocked_in f m (root_put key value)) (λ c. Ok (storing 1 name (with_change f c) (made_line c))))
-    ≡ answer_told (reads name) (on (told (put_planned f m key value fault)) (with_made_lines f))
-fault_link name f m key value (Some w) single lt = refl
-fault_link name f m key value None single lt =
-    let c = change_made f m (root_put key value) in
+fault_link : (name : List ℕ) (f : File) (m : ℕ) (e : Edit) (fault : Option WrongEdit) → IsSingle f → unfit_in f ≡ None → m < f.members
+    → on (unless_wrong fault (plan (replay f.kept) e)) (λ l. on (clocked_in f m l) (λ c. Ok (storing 1 name (with_change f c) (made_line c))))
+    ≡ answer_told (reads name) (on (told (planned f.members (held f.members f.kept) m e fault)) (with_made_lines f))
+fault_link name f m e (Some w) single fit lt = refl
+fault_link name f m e None single fit lt =
     let past = held f.members f.kept in
-    clock_link name f m key value _ (clock_full (greatest_time f.members past) m (past.row m).count) (stored_is f m (root_put key value) single lt)
+    let os = plan (replay f.kept) e in
+    clock_link name f m os _ (clock_full (greatest_time f.members past) m (past.row m).count) (stored_is f m os single fit lt)
 
-abbrev its_editor : Bool → ℕ → Result ℕ Status
-its_editor its_own m = cond its_own (Ok m) (Err (s.NotBuilt 1))
+-- What is made is what its least member makes, where all that is kept fits.
+abbrev IsPlanned : File → Edit → Option Refused → Result (List Change) Unmade → ℕ → Type 0
+IsPlanned f e unfit made m = unfit ≡ None → made ≡ planned f.members (held f.members f.kept) m e (edit_fault (replay f.kept) e)
 
-editor_link : (name : List ℕ) (f : File) (m : ℕ) (ms key : List ℕ) (value : Value) (fault : Option WrongEdit) (its_own : Bool) → IsSingle f → m < f.members
-    → on (its_editor its_own m) (λ k. on (faultless fault) (λ u. on (clocked_in f k (root_put key value)) (λ c. Ok (storing 1 name (with_change f c) (made_line c)))))
-    ≡ answer_told (reads name) (on (provided its_own (s.NotBuilt 1)) (λ u. on (told (put_planned f m key value fault)) (with_made_lines f)))
-editor_link name f m ms key value fault true single lt = fault_link name f m key value fault single lt
-editor_link name f m ms key value fault false single lt = refl
+fit_link : (name : List ℕ) (f : File) (m : ℕ) (e : Edit) (unfit : Option Refused) (made : Result (List Change) Unmade) → IsSingle f → m < f.members → unfit_in f ≡ unfit → IsPlanned f e unfit made m
+    → on (on (refused_told 1 unfit) (λ u. unless_wrong (edit_fault (replay f.kept) e) (plan (replay f.kept) e))) (λ l. on (clocked_in f m l) (λ c. Ok (storing 1 name (with_change f c) (made_line c))))
+    ≡ answer_told (reads name) (on (refused_told 1 unfit) (λ w. on (told made) (with_made_lines f)))
+fit_link name f m e (Some r) made single lt fits is = refl
+fit_link name f m e None made single lt fits is =
+    fault_link name f m e (edit_fault (replay f.kept) e) single fits lt ∙ ap (λ p. answer_told (reads name) (on (told p) (with_made_lines f))) (sym (is refl))
 
-mine_link : (name : List ℕ) (f : File) (key : List ℕ) (value : Value) (fault : Option WrongEdit) (made : Result (List Change) Unmade) (mine : List ℕ) → IsSingle f → AllByRecursion (λ m. m < f.members) mine
-    → ((m : ℕ) (ms : List ℕ) → mine ≡ m ∷ ms → made ≡ put_planned f m key value fault)
-    → code_of name f key value fault mine ≡ answer_told (reads name) (meant_of f mine None made)
-mine_link name f key value fault made [] single below is = refl
-mine_link name f key value fault made (m ∷ ms) single below is =
+-- the same of the member who edits, or of none
+editor_link : (name : List ℕ) (f : File) (m : ℕ) (e : Edit) (unfit : Option Refused) (made : Result (List Change) Unmade) (its_own : Bool) → IsSingle f → m < f.members → unfit_in f ≡ unfit → IsPlanned f e unfit made m
+    → on (by_test its_own m) (λ k. on (on (refused_told 1 unfit) (λ u. unless_wrong (edit_fault (replay f.kept) e) (plan (replay f.kept) e))) (λ l. on (clocked_in f k l) (λ c. Ok (storing 1 name (with_change f c) (made_line c)))))
+    ≡ answer_told (reads name) (on (provided its_own (s.NotBuilt 1)) (λ u. on (refused_told 1 unfit) (λ w. on (told made) (with_made_lines f))))
+editor_link name f m e unfit made true single lt fits is = fit_link name f m e unfit made single lt fits is
+editor_link name f m e unfit made false single lt fits is = refl
+
+mine_link : (name : List ℕ) (f : File) (e : Edit) (made : Result (List Change) Unmade) (mine : List ℕ) → IsSingle f → AllByRecursion (λ m. m < f.members) mine → ((m : ℕ) (ms : List ℕ) → mine ≡ m ∷ ms → IsPlanned f e (unfit_in f) made m)
+    → code_of name f (unfit_in f) (edit_fault (replay f.kept) e) (plan (replay f.kept) e) mine ≡ answer_told (reads name) (meant_of f (unfit_in f) made mine)
+mine_link name f e made [] single below is = refl
+mine_link name f e made (m ∷ ms) single below is =
     let its_own = list_all (λ c. eqb c.member m) f.kept in
     let some : eqb (length (m ∷ ms)) 0 ≡ false = ne_eqb (length (m ∷ ms)) 0 (omega arith) in
-    editor_link name f m ms key value fault its_own single below.0
-    ∙ ap (λ b. answer_told (reads name) (on (provided its_own (s.NotBuilt 1)) (λ u. on (provided (not b) (s.Member Nobody)) (λ v. on (told (put_planned f m key value fault)) (with_made_lines f))))) (sym some)
-    ∙ ap (λ p. answer_told (reads name) (meant_of f (m ∷ ms) None p)) (sym (is m ms refl))
+    editor_link name f m e (unfit_in f) made its_own single below.0 refl (is m ms refl)
+    ∙ ap (λ b. answer_told (reads name) (on (provided its_own (s.NotBuilt 1)) (λ u. on (provided (not b) (s.Member Nobody)) (λ v. on (refused_told 1 (unfit_in f)) (λ w. on (told made) (with_made_lines f)))))) (sym some)
 
--- The code's answer to a put on the root is that of the edit.
-edit_link : (name : List ℕ) (f : File) (e : Edit) (key : List ℕ) (value : Value) (r : Result Answer Status) → IsSingle f
-    → ((m : ℕ) (ms : List ℕ) → f.mine ≡ m ∷ ms → made_edit f.members (held_in f) f.mine e ≡ put_planned f m key value (slice_get (wrong_key key ++ wrong_value value) 0))
-    → put_in name f key value r → r ≡ answer_told (reads name) (on (taken_editor f.mine f.kept) (λ u. edited e f))
-edit_link name f e key value r single is steps =
-    let made = made_edit f.members (held_in f) f.mine e in
-    put_in_is name f key value r steps
-    ∙ mine_link name f key value (slice_get (wrong_key key ++ wrong_value value) 0) made f.mine single single.is_file.header.mine_below is
-    ∙ ap (λ p. answer_told (reads name) (meant_of f f.mine p made)) (sym (none_unfit f single))
+-- The code's answer to an edit is that of the edit.
+edit_link : (name : List ℕ) (f : File) (e : Edit) → IsSingle f → edited_in name f e ≡ answer_told (reads name) (on (taken_editor f.mine f.kept) (λ u. edited e f))
+edit_link name f e single =
+    ap (λ (st : State). code_of name f (unfit_in f) (edit_fault st e) (plan st e) f.mine) (state_is f single)
+    ∙ mine_link name f e (made_edit f.members (held_in f) f.mine e) f.mine single single.is_file.header.mine_below (λ m ms mine fit. edit_planned f e m ms single fit mine)
 
 -- ---- what is made of the bytes of a file
 
@@ -138,44 +126,31 @@ edit_refuses name bytes e refusal short h =
     refuses_first (order_made (over bytes) (command (edit name e))) _ refusal
     (refuses_first (file_of 1 member_files (whole bytes)) _ refusal (file_refuses member_files bytes refusal short h))
 
+-- What doesn't fit is refused.
+pub show_unfit : (name bytes : List ℕ) (f : File) (refusal : Status) → length bytes ≤ file_limit → opened 1 based_files bytes (Ok f) → Refuses (exactly (fitting 1 f)) refusal → Refuses (order_made_of (command (show name)) bytes) refusal
+show_unfit name bytes f refusal short opens h =
+    refuses_first (order_made (over bytes) (command (show name))) _ refusal
+    (refuses_next (file_of 1 based_files (whole bytes)) (λ g. exactly (shown g)) f refusal (reads_file based_files bytes f short opens)
+    (refuses_by (exactly (fitting 1 f)) (exactly (shown f)) refusal (ap (λ p. on p (λ u. printed (show_text (view (state_in f)))))) h))
+
 -- The view of a file that is taken is that of its changes.
-pub show_means : (name bytes text : List ℕ) (f : File) → length bytes ≤ file_limit → opened 1 based_files bytes (Ok f) → IsSingle f → text ≡ show_text (view (replay f.kept))
+pub show_means : (name bytes text : List ℕ) (f : File) → length bytes ≤ file_limit → opened 1 based_files bytes (Ok f) → IsSingle f → Ok tt ≡ fitting 1 f → text ≡ show_text (view (replay f.kept))
     → order_made_of (command (show name)) bytes (Ok (record { text = text; store = None }))
-show_means name bytes text f short opens single is =
+show_means name bytes text f short opens single fits is =
     let shows : List ℕ → Outcome = λ t. record { text = t; stored = None } in
     let meant : Ok (shows text) ≡ shown f =
     ap (λ t. Ok (shows t)) (is ∙ ap (λ (st : State). show_text (view st)) (sym (state_is f single)))
-    ∙ ap (λ p. on (refused_told 1 p) (λ u. Ok (shows (show_text (view (state_in f)))))) (sym (none_unfit f single)) in
+    ∙ ap (λ p. on p (λ u. Ok (shows (show_text (view (state_in f)))))) fits in
     (Ok (shows text), (Ok f, reads_file based_files bytes f short opens, meant), refl)
 
-holds_where : (b : Bool) (refusal : Status) → provided b refusal ≡ Ok tt → b ≡ true
-holds_where true refusal e = refl
-holds_where false refusal e = absurd cc
-
--- An unset has no value that could be too long.
-unset_planned : (key : List ℕ) → slice_get (wrong_key key) 0 ≡ slice_get (wrong_key key ++ wrong_value null) 0
-unset_planned key = ap (λ ws. slice_get ws 0) (sym (append-nil (wrong_key key)))
-
-put_means : (name bytes : List ℕ) (e : Edit) (key : List ℕ) (value : Value) (f : File) (r : Result Answer Status) → length bytes ≤ file_limit → opened 1 member_files bytes (Ok f) → IsSingle f
-    → ((m : ℕ) (ms : List ℕ) → f.mine ≡ m ∷ ms → made_edit f.members (held_in f) f.mine e ≡ put_planned f m key value (slice_get (wrong_key key ++ wrong_value value) 0))
-    → put_in name f key value r → order_made_of (command (edit name e)) bytes r
-put_means name bytes e key value f r short opens single made steps =
+-- An edit of a file that is taken is what it means.
+pub edit_means : (name bytes : List ℕ) (e : Edit) (f : File) → length bytes ≤ file_limit → opened 1 member_files bytes (Ok f) → IsSingle f → (r : Result Answer Status) → r ≡ edited_in name f e → order_made_of (command (edit name e)) bytes r
+edit_means name bytes e f short opens single r is =
     let o : Result Outcome Status = on (taken_editor f.mine f.kept) (λ u. edited e f) in (
       o,
       (Ok f, reads_file member_files bytes f short opens, some_outcome (taken_editor f.mine f.kept) _ (λ u. edited e f) (λ u. refl)),
-      continues_told (reads name) o r (edit_link name f e key value r single made steps),
+      continues_told (reads name) o r (is ∙ edit_link name f e single),
     )
-
--- An edit of the root is what it means.
-pub edit_means : (name bytes : List ℕ) (e : Edit) (f : File) → taken_edit e ≡ Ok tt → length bytes ≤ file_limit → opened 1 member_files bytes (Ok f) → IsSingle f
-    → (r : Result Answer Status) → edited_in name f e r → order_made_of (command (edit name e)) bytes r
-edit_means name bytes (put_value node key value) f taken short opens single r steps =
-    subst (λ at. order_made_of (command (edit name (put_value at key value))) bytes r) (sym (id_eq-exact node root_id (holds_where (id_eq node root_id) (s.NotBuilt 2) taken)))
-    (put_means name bytes (put_value root_id key value) key value f r short opens single (λ m ms mine. put_made f m ms key value single mine) steps)
-edit_means name bytes (unset_key node key) f taken short opens single r steps =
-    subst (λ at. order_made_of (command (edit name (unset_key at key))) bytes r) (sym (id_eq-exact node root_id (holds_where (id_eq node root_id) (s.NotBuilt 2) taken)))
-    (put_means name bytes (unset_key root_id key) key null f r short opens single (λ m ms mine. unset_made f m ms key single mine ∙ ap (put_planned f m key null) (unset_planned key)) steps)
-edit_means name bytes _ f taken short opens single r steps = absurd steps
 
 -- ---- the same over the loads of a command
 

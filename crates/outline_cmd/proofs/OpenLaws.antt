@@ -4,7 +4,6 @@ use Rattle.std.specs.List.{list_any}
 use Rattle.model.specs.File.{File, Kind, member_file, bundle, snapshot, kind_number, file_limit}
 use Rattle.replica.specs.Scanning.{ScanAnswer}
 use Rattle.outline_cmd.specs.declared.status.Status.TheVariants as s
-use Rattle.outline_cmd.specs.declared.doc_store.Document.{Document}
 use Rattle.outline_cmd.specs.Meaning.{scanned, opened, member_files, based_files}
 use Rattle.outline_cmd.specs.Opened.{IsScanned, IsOpened, IsTaken, AreKinds}
 use Rattle.outline_cmd.specs.Outcome.{provided, of_kind}
@@ -27,24 +26,6 @@ taken_in : (k : Kind) (word : ℕ) (f : File) (b : Bool) → k ≢ bundle → is
 taken_in member_file word f b other is = ap (λ t. provided t (s.NotBuilt word)) is
 taken_in bundle word f b other is = absurd (other refl)
 taken_in snapshot word f b other is = ap (λ t. provided t (s.NotBuilt word)) is
-
-pub is_based : (f : File) → kind_number f.kind ≢ 1 → f.kind ≢ bundle
-is_based f other e = other (ap kind_number e)
-
-pub bundle_from : (k : Kind) → kind_number k ≡ 1 → k ≡ bundle
-bundle_from member_file e = absurd cc
-bundle_from bundle e = refl
-bundle_from snapshot e = absurd cc
-
--- A bundle is taken.
-pub bundles_taken : (word : ℕ) (f : File) → kind_number f.kind ≡ 1 → Ok tt ≡ taken_file word f
-bundles_taken word f e = ap (λ (k : Kind). taken_as k word f) (sym (bundle_from f.kind e))
-
-pub file_taken : (word : ℕ) (f : File) → kind_number f.kind ≢ 1 → is_taken f ≡ true → Ok tt ≡ taken_file word f
-file_taken word f other is = sym (taken_in f.kind word f true (is_based f other) is)
-
-pub file_not_taken : (word : ℕ) (f : File) → kind_number f.kind ≢ 1 → is_taken f ≡ false → Err (s.NotBuilt word) ≡ taken_file word f
-file_not_taken word f other is = sym (taken_in f.kind word f false (is_based f other) is)
 
 taken_by : (k : Kind) (word : ℕ) (f : File) (b : Bool) → k ≢ bundle → is_taken f ≡ b → taken_as k word f ≡ Ok tt → b ≡ true
 taken_by k word f true other is e = refl
@@ -88,5 +69,5 @@ opened_based word bytes kinds f based (Ok g, scans, (Err q, taken, e)) = absurd 
 opened_based word bytes kinds f based (Err q, scans, e) = absurd cc
 
 -- It is taken.
-pub is_taken_file : (word : ℕ) (bytes : List ℕ) (f : File) (document : Document) → IsOpened word bytes f document → f.kind ≢ bundle → IsTaken f
-is_taken_file word bytes f document is kind = opened_taken word bytes f is.scanned is.taken kind
+pub is_taken_file : (word : ℕ) (bytes : List ℕ) (f : File) → IsOpened word bytes f → f.kind ≢ bundle → IsTaken f
+is_taken_file word bytes f is kind = opened_taken word bytes f is.scanned is.taken kind

@@ -1,5 +1,5 @@
 -- Steps of which each has one outcome.
-use Rattle.std.proofs.Common.{◌≡◌, Result, Ok, Err, refl, subst}
+use Rattle.std.proofs.Common.{◌≡◌, Result, Ok, Err, refl, ap, subst, ◌∙◌}
 use Rattle.outline_cmd.specs.declared.status.Status.{Status}
 use Rattle.outline_cmd.specs.Meaning.{Meaning, ◌>>=◌, exactly, Continues}
 
@@ -21,3 +21,7 @@ one_outcome first next made each outcome (Err refusal, is, rest) = subst (λ s. 
 pub some_outcome : {A B : Type 0} (first : Result A Status) (next : A → Meaning B) (made : A → Result B Status) → ((x : A) → next x (made x)) → (exactly first >>= next) (on first made)
 some_outcome (Ok x) next made each = (Ok x, refl, each x)
 some_outcome (Err refusal) next made each = (Err refusal, refl, refl)
+
+-- Where the first step is done, the outcome is that of the next.
+pub goes_on : {A B : Type 0} (first : Result A Status) (next : A → Result B Status) (x : A) (outcome : Result B Status) → Ok x ≡ first → outcome ≡ next x → outcome ≡ on first next
+goes_on first next x outcome goes is = is ∙ ap (λ s. on s next) goes

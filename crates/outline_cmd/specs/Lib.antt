@@ -14,5 +14,4 @@ pub mod Opened
 pub mod Edits
 pub mod Stages
 pub mod Input
-pub mod Front
 pub mod Document

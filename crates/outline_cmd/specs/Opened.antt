@@ -1,11 +1,8 @@
 -- Files that a command reads, as the code has them. Private contracts alone cite this.
 use Rattle.std.specs.Prelude.{◌≡◌, ◌≢◌, ℕ, true, List, Ok, map}
 use Rattle.model.specs.File.{File, Kind, bundle, kind_number}
-use Rattle.model.specs.State.{empty_state, after, atoms}
 use Rattle.model.specs.Stands.{IsStored}
 use Rattle.replica.specs.Scanning.{HasEmptyBase}
-use Rattle.outline_cmd.specs.declared.doc_store.Document.{Document}
-use Rattle.outline_cmd.specs.Document.{Holds}
 use Rattle.outline_cmd.specs.Scope.{is_taken, taken_file}
 
 -- these numbers are those of the kinds
@@ -17,11 +14,10 @@ pub record IsScanned (bytes : List ℕ) (f : File) : Type 0 where
   pub stored : IsStored bytes f
   pub base : HasEmptyBase f
 
--- It is taken, and this is its document.
-pub record IsOpened (word : ℕ) (bytes : List ℕ) (f : File) (document : Document) : Type 0 where
+-- It is taken.
+pub record IsOpened (word : ℕ) (bytes : List ℕ) (f : File) : Type 0 where
   pub scanned : IsScanned bytes f
   pub taken : taken_file word f ≡ Ok tt
-  pub holds : f.kind ≢ bundle → Holds document (after empty_state (atoms f.kept))
 
 -- A stored file that has a base, the empty one, and all of whose changes are taken.
 pub record IsTaken (f : File) : Type 0 where

@@ -16,8 +16,8 @@ use Rattle.model.specs.View.{view}
 use Rattle.model.specs.Text.{field, hex, numbers_text, show_text, holds_line, made_line, trimmed_line, log_text, report_text}
 use Rattle.replica.specs.declared.head.DocRef.{DocRef}
 use Rattle.replica.specs.declared.fault.MemberFault.TheVariants.{NoMember, NotHeld, Held, Nobody}
-use Rattle.outline_cmd.specs.declared.faults.EditFault.{EditFault}
-use Rattle.outline_cmd.specs.declared.faults.EditFault.TheVariants.{NoNode, NoIndex, Cycle, Fixed, NoChars, Empty, TooLong}
+use Rattle.doc_store.specs.declared.edit.EditFault.{EditFault}
+use Rattle.doc_store.specs.declared.edit.EditFault.TheVariants.{NoNode, NoIndex, Cycle, Fixed, NoChars, Empty, TooLong}
 use Rattle.replica.specs.declared.fault.Misfit.{Misfit}
 use Rattle.replica.specs.declared.fault.Misfit.TheVariants.{A0, A1, A2, A3, A4}
 use Rattle.outline_cmd.specs.declared.status.Status.{Status}

@@ -1,53 +1,40 @@
 //! Edits: the change that a member makes, and the file with it.
 
-ghost use Rattle.std.specs.Prelude.{◌≡◌, ◌==◌, ◌≤◌, ◌<◌, ◌++◌, List, ℕ, length, Ok, IfOk, IfErr, OnOk, IsUtf8};
+ghost use Rattle.std.specs.Prelude.{◌≡◌, ◌==◌, ◌≤◌, ◌<◌, ◌++◌, ◌-◌, ◌^◌, List, ℕ, None, length, min, sum_by, IfOk, IfErr, OnOk};
 ghost use Rattle.std.specs.List.{list_all};
-ghost use Rattle.cbor_det.specs.Head.{IsBytes};
 ghost use Rattle.cbor_det.specs.Item.{spell};
-ghost use Rattle.model.specs.Operation.{Operation};
-ghost use Rattle.model.specs.Value.{Value as TheValue};
-ghost use Rattle.model.specs.Edit.{Edit, value_len};
+ghost use Rattle.model.specs.Operation.{width_of as ids_of};
+ghost use Rattle.model.specs.Edit.{Edit as TheEdit};
 ghost use Rattle.model.specs.Change.{Change, IsChange, change_item};
 ghost use Rattle.model.specs.Command.{edit as edits_file};
 ghost use Rattle.model.specs.File.{file_limit, spell_file};
-ghost use Rattle.model.specs.Text.{hex};
+ghost use Rattle.model.specs.Reading.{unfit_in};
+ghost use Rattle.keeping_laws.specs.Forms.{IsEdit};
 ghost use Rattle.op_grammar.specs.Changes.{change_of, head_of};
-ghost use Rattle.op_grammar.specs.Values.{value_of};
-ghost use Rattle.outline_words.specs.Commands.{SaysValue, IsWordEdit};
-ghost use Rattle.outline_words.specs.Forms.{IsWordValue};
+ghost use Rattle.op_grammar.specs.Operations.{operations_of};
+ghost use Rattle.doc_store.specs.Edits.{IsTreeEdit, edit_of};
+ghost use Rattle.outline_words.specs.Commands.{IsWordEdit};
 ghost use Rattle.outline_words.specs.Table.{command};
 ghost use Rattle.outline_cmd.specs.Tasks.{SaysEdit, order_made_of};
-ghost use Rattle.outline_cmd.specs.Edits.{with_change, editor_among, checked_put, clocked_in, root_put as put_of, put_in, edited_in, MakesFile};
+ghost use Rattle.outline_cmd.specs.Edits.{with_change, editor_among, planned_in, clocked_in, edited_in, MakesFile};
 ghost use Rattle.outline_cmd.specs.Opened.{IsTaken};
 ghost use Rattle.outline_cmd.specs.Meaning.{exactly};
 ghost use Rattle.outline_cmd.specs.Stages.{answer_of, Follows};
 ghost use Rattle.outline_cmd.specs.declared.status.Status.TheVariants.{NoMemory};
 
 use crate::answer::{Answer, Store};
-use crate::faults::EditFault;
-use crate::opened::{Opened, open};
-use crate::outline_show::made_text;
+use crate::document::document_of;
+use crate::edit_words::EditWords;
+use crate::lines::made_text;
+use crate::opened::open;
 use crate::status::Status;
 use cbor_det::OwnBytes;
+use doc_store::{Edit, PlanFault};
 use lazy_blocks::Block;
-use op_grammar::{Head, OpPlan, OpRef, Value, WriteFault, write_change};
-use op_ids::{MAX_TIME, ROOT};
-use outline_words::WordValue;
+use op_grammar::{Head, OpPlan, WriteFault, width_of, write_change};
+use op_ids::MAX_TIME;
 use replica::{FileParts, MEMBER_FILE, MemberFault, write_parts};
 use std::alloc::Global;
-
-/// How many bytes a key has at most.
-const MAX_KEY_LEN: usize = 256;
-
-/// How many bytes a text or a byte string has at most, as a value.
-const MAX_VALUE_LEN: usize = 65_536;
-
-/// An edit of the root, as words give it.
-#[derive(Clone, Copy)]
-pub(crate) enum EditWords<'w> {
-    Put { key: &'w str, value: WordValue<'w> },
-    Unset { key: &'w str },
-}
 
 /// Whether all changes that a file keeps are of this member.
 fn made_all(parts: &FileParts<'_>, member: u8) -> bool
@@ -79,49 +66,53 @@ fn editor(parts: &FileParts<'_>) -> Result<u8, Status>
     }
 }
 
-/// How many bytes a text or bytes have.
-fn value_len(value: Value<'_>) -> usize
-    ensures { result ≡ value_len (value_of value.entry) }
+/// The operations of an edit of a file that is taken.
+fn plan_of<'w>(alloc: Global, parts: &FileParts<'_>, edit: &Edit<'w>) -> Result<OpPlan<'w>, Status>
+    requires taken { IsTaken parts.now }
+    requires tree { IsTreeEdit (edit_of edit.now) }
+    ensures told { Follows operations_of result (exactly (planned_in parts.now (edit_of edit.now))) }
+    ensures fit { IfOk result (λ plan. unfit_in parts.now ≡ None) }
 {
-    match value {
-        Value::Null | Value::Bool(_) | Value::Int(_) => 0,
-        Value::Text(text) => text.len(),
-        Value::Bytes(bytes) => bytes.len(),
+    let document = document_of(alloc, 1, parts)?;
+    match document.plan(edit) {
+        Ok(plan) => Ok(plan),
+        Err(PlanFault::Edit { fault, word }) => Err(Status::Edit { fault, word }),
+        Err(PlanFault::NoMemory) => Err(Status::NoMemory),
     }
 }
 
-/// The first fault of a put: its key has 1 to 256 bytes, and its text or bytes at most 65,536.
-fn check_put(key: &str, value: Value<'_>) -> Result<(), Status>
-    ensures { Follows (λ u. u) result (exactly (checked_put key.now (value_of value.entry))) }
+/// How many operations a plan has, or the greatest number.
+fn count_of(plan: &OpPlan<'_>) -> u32
+    ensures { result ≡ min (length plan.now) (2 ^ 32 - 1) }
 {
-    if key.is_empty() {
-        return Err(Status::Edit {
-            fault: EditFault::Empty,
-            word: 3,
-        });
-    }
-    if key.len() > MAX_KEY_LEN {
-        return Err(Status::Edit {
-            fault: EditFault::TooLong,
-            word: 3,
-        });
-    }
-    if value_len(value) > MAX_VALUE_LEN {
-        return Err(Status::Edit {
-            fault: EditFault::TooLong,
-            word: 4,
-        });
-    }
-    Ok(())
+    u32::try_from(plan.len()).unwrap_or(u32::MAX)
 }
 
-/// What the next change of a member says, which has one operation.
-fn next_head(alloc: Global, parts: &FileParts<'_>, member: u8) -> Result<Head, Status>
+/// How many ids the operations of a plan take, or the greatest number.
+fn width_of_plan(plan: &OpPlan<'_>) -> u32
+    ensures { result ≡ min (sum_by ids_of (operations_of plan.now)) (2 ^ 32 - 1) }
+{
+    let mut width = 0u32;
+    'operations: for i in 0..plan.len() {
+        width = width.saturating_add(width_of(plan.at(i)));
+    }
+    width
+}
+
+/// What the next change of a member says, which has the operations of a plan.
+fn next_head(
+    alloc: Global,
+    parts: &FileParts<'_>,
+    member: u8,
+    plan: &OpPlan<'_>,
+) -> Result<Head, Status>
     requires within { member < parts.now.members }
     requires taken { IsTaken parts.now }
-    ensures told { (operations : List Operation)
-        → Follows (λ head. change_of head operations) result (exactly (clocked_in parts.now member operations)) }
-    ensures heads { (key : List ℕ) (value : TheValue) → IfOk result (λ head. head ≡ head_of (change_of head (put_of key value))) }
+    requires fit { unfit_in parts.now ≡ None }
+    ensures told { Follows (λ head. change_of head (operations_of plan.now)) result
+        (exactly (clocked_in parts.now member (operations_of plan.now))) }
+    ensures count { IfOk result (λ head. head.count ≡ min (length plan.now) (2 ^ 32 - 1)) }
+    ensures width { IfOk result (λ head. head.width ≡ min (sum_by ids_of (operations_of plan.now)) (2 ^ 32 - 1)) }
 {
     let time = parts.last_time();
     let causes = parts.counts(alloc);
@@ -138,33 +129,21 @@ fn next_head(alloc: Global, parts: &FileParts<'_>, member: u8) -> Result<Head, S
         number: number + 1,
         time: time + 1,
         causes,
-        count: 1,
-        width: 1,
+        count: count_of(plan),
+        width: width_of_plan(plan),
     })
 }
 
-/// Appends the change with this head that puts a value under a key of the root.
-fn write_put(
-    alloc: Global,
-    out: &mut Vec<u8>,
-    head: &Head,
-    key: &str,
-    value: Value<'_>,
-) -> Result<(), Status>
+/// Appends the change with this head and the operations of a plan.
+fn write_plan(out: &mut Vec<u8>, head: &Head, plan: &OpPlan<'_>) -> Result<(), Status>
     requires few { length head.now.causes ≤ 32 }
-    requires heads { head.now ≡ head_of (change_of head.now (put_of key.now (value_of value))) }
-    requires change { IsChange (length head.now.causes) (change_of head.now (put_of key.now (value_of value))) }
+    requires heads { head.now ≡ head_of (change_of head.now (operations_of plan.now)) }
+    requires change { IsChange (length head.now.causes) (change_of head.now (operations_of plan.now)) }
     ensures ok { OnOk result (out.new.items ≡ out.old.items
-        ++ spell (change_item (change_of head.now (put_of key.now (value_of value.entry))))) }
+        ++ spell (change_item (change_of head.now (operations_of plan.now)))) }
     ensures err { IfErr result (λ status. status ≡ NoMemory) }
 {
-    let mut plan = OpPlan::new(alloc);
-    plan.push(OpRef::PutKey {
-        node: ROOT,
-        key,
-        value,
-    })?;
-    match write_change(out, head, &plan) {
+    match write_change(out, head, plan) {
         Ok(()) => Ok(()),
         Err(WriteFault::NoMemory) => Err(Status::NoMemory),
         Err(WriteFault::Rule(_)) => unreachable!(),
@@ -184,45 +163,43 @@ fn written<'a>(alloc: Global, span: &'a [u8], members: u8) -> Block<'a>
     }
 }
 
-/// The bytes of a file with one more change, which puts a value on the root.
-fn with_put(
+/// The bytes of a file with one more change, which has this head and the operations of a plan.
+fn with_plan(
     alloc: Global,
     parts: FileParts<'_>,
     head: &Head,
-    key: &str,
-    value: Value<'_>,
+    plan: &OpPlan<'_>,
 ) -> Result<OwnBytes, Status>
-    requires { MakesFile parts head.now key.now (value_of value) }
-    ensures ok { IfOk result (λ bytes. bytes ≡ spell_file (with_change parts.entry (change_of head.now (put_of key.now (value_of value.entry))))) }
+    requires { MakesFile parts head.now (operations_of plan.now) }
+    ensures ok { IfOk result (λ bytes. bytes ≡ spell_file (with_change parts.entry (change_of head.now (operations_of plan.now)))) }
     ensures err { IfErr result (λ status. status ≡ NoMemory) }
 {
     let members = parts.head().doc.n;
     let mut room = Vec::new(alloc);
-    write_put(alloc, &mut room, head, key, value)?;
+    write_plan(&mut room, head, plan)?;
     let block = written(alloc, &room, members);
     let parts = parts.keep(block)?;
     let bytes = write_parts(alloc, &parts)?;
     Ok(bytes)
 }
 
-/// The answer of a put on the root of a file.
-fn add_put<'w>(
+/// The answer of an edit of a file that is taken.
+fn edit_parts<'w>(
     alloc: Global,
     parts: FileParts<'_>,
     name: &'w str,
-    key: &str,
-    value: Value<'_>,
+    edit: &Edit<'_>,
 ) -> Result<Answer<'w>, Status>
     requires taken { IsTaken parts }
-    requires key { IsUtf8 key.now }
-    requires value { IsWordValue (value_of value) }
-    ensures { Follows answer_of result (put_in name.now parts.entry key.now (value_of value.entry)) }
+    requires tree { IsTreeEdit (edit_of edit.now) }
+    requires form { IsEdit (edit_of edit.now) }
+    ensures { Follows answer_of result (exactly (edited_in name.now parts.entry (edit_of edit.now))) }
 {
     let member = editor(&parts)?;
-    check_put(key, value)?;
-    let head = next_head(alloc, &parts, member)?;
+    let plan = plan_of(alloc, &parts, edit)?;
+    let head = next_head(alloc, &parts, member, &plan)?;
     let text = made_text(alloc, &head)?;
-    let bytes = with_put(alloc, parts, &head, key, value)?;
+    let bytes = with_plan(alloc, parts, &head, &plan)?;
     Ok(Answer {
         text,
         store: Some(Store {
@@ -233,69 +210,19 @@ fn add_put<'w>(
     })
 }
 
-/// The bytes that lower-case hexadecimal digits say.
-#[tactic(auto, using(crate::proofs::HexLaws::hex_decodes))]
-pub(crate) fn decoded(alloc: Global, digits: &str) -> Result<Vec<u8>, Status>
-    ensures ok { (bytes : List ℕ) → IsBytes bytes → digits.now ≡ hex bytes
-        → IfOk result (λ decoded. decoded.items ≡ bytes) }
-    ensures err { IfErr result (λ status. status ≡ NoMemory) }
-{
-    // What a word says are digits, so that memory alone can be wanting.
-    hex::decode(alloc, digits).map_err(|_| Status::NoMemory)
-}
-
-/// The answer of a put on the root of a file, of the value that a word gives.
-fn put_word<'w>(
-    alloc: Global,
-    parts: FileParts<'_>,
-    name: &'w str,
-    key: &str,
-    value: WordValue<'_>,
-) -> Result<Answer<'w>, Status>
-    requires taken { IsTaken parts }
-    requires key { IsUtf8 key.now }
-    requires said { (said : TheValue) × SaysValue value said × IsWordValue said }
-    ensures { (said : TheValue) → SaysValue value.entry said → IsWordValue said
-        → Follows answer_of result (put_in name.now parts.entry key.now said) }
-{
-    match value {
-        WordValue::Plain(value) => add_put(alloc, parts, name, key, value),
-        WordValue::Digits(digits) => {
-            let value = decoded(alloc, digits)?;
-            add_put(alloc, parts, name, key, Value::Bytes(&value))
-        }
-    }
-}
-
-/// The answer of an edit of the root of a file.
-fn edit_parts<'w>(
-    alloc: Global,
-    parts: FileParts<'_>,
-    name: &'w str,
-    edit: EditWords<'_>,
-) -> Result<Answer<'w>, Status>
-    requires taken { IsTaken parts }
-    requires said { (e : Edit) × SaysEdit edit e × IsWordEdit e }
-    ensures { (e : Edit) → SaysEdit edit.entry e → IsWordEdit e → Follows answer_of result (edited_in name.now parts.entry e) }
-{
-    match edit {
-        EditWords::Put { key, value } => put_word(alloc, parts, name, key, value),
-        EditWords::Unset { key } => add_put(alloc, parts, name, key, Value::Null),
-    }
-}
-
-/// The answer of an edit of the root of the file that the bytes spell.
+/// The answer of an edit of the file that the bytes spell.
 pub(crate) fn edit_file<'w>(
     alloc: Global,
     bytes: &[u8],
     name: &'w str,
-    edit: EditWords<'_>,
+    words: EditWords<'_>,
 ) -> Result<Answer<'w>, Status>
     requires short { length bytes.now ≤ file_limit }
-    requires said { (e : Edit) × SaysEdit edit e × IsWordEdit e }
-    ensures { (e : Edit) → SaysEdit edit.entry e → IsWordEdit e
+    requires said { (e : TheEdit) × SaysEdit words e × IsWordEdit e }
+    ensures { (e : TheEdit) → SaysEdit words.entry e → IsWordEdit e
         → Follows answer_of result (order_made_of (command (edits_file name.now e)) bytes.now) }
 {
-    let Opened { parts, document: _ } = open(alloc, 1, bytes, &[MEMBER_FILE])?;
-    edit_parts(alloc, parts, name, edit)
+    let parts = open(alloc, 1, bytes, &[MEMBER_FILE])?;
+    let given = words.decode(alloc)?;
+    edit_parts(alloc, parts, name, &words.edit(&given))
 }

@@ -1,13 +1,12 @@
 //! What holds of the definitions of the command, as contracts of functions that do nothing.
 
-ghost use Rattle.std.specs.Prelude.{◌≡◌, ◌∷◌, [], ℕ, List, None, Result, Ok};
-ghost use Rattle.op_ids.specs.Order.{root_id};
+ghost use Rattle.std.specs.Prelude.{◌≡◌, ℕ, true, List, None, Some, Result, Ok};
 ghost use Rattle.model.specs.Change.{Change};
+ghost use Rattle.model.specs.Edit.{Edit};
 ghost use Rattle.model.specs.File.{File};
 ghost use Rattle.model.specs.Reading.{state_in, unfit_in};
 ghost use Rattle.model.specs.Stands.{Stands, Ledgers, AllStand};
 ghost use Rattle.model.specs.State.{replay};
-ghost use Rattle.model.specs.View.{view, entries_of};
 ghost use Rattle.model.specs.Command.{Command as TheCommand};
 ghost use Rattle.outside.specs.Files.{Files, file_at};
 ghost use Rattle.outline_words.specs.Commands.{IsOrder};
@@ -16,18 +15,23 @@ ghost use Rattle.outline_cmd.specs.Ledgers.{KeepsLedgers};
 ghost use Rattle.outline_cmd.specs.Meaning.{Loads, Answer, command_roles, order_meaning, meaning};
 ghost use Rattle.outline_cmd.specs.OfBytes.{AreOfBytes};
 ghost use Rattle.outline_cmd.specs.Opened.{IsTaken};
+ghost use Rattle.outline_cmd.specs.Outcome.{Outcome, edited};
 ghost use Rattle.outline_cmd.specs.Run.{AreOf, with_store};
+ghost use Rattle.outline_cmd.specs.Scope.{taken_edit, taken_editor, is_taken};
 ghost use Rattle.outline_cmd.specs.declared.status.Status.{Status as TheStatus};
 
-/// A file that this version takes stands for the ledger of its changes and for no other; its changes fit one another, and it
-/// shows the root alone.
+/// A file that this version takes stands for the ledger of its changes exactly where they fit one another, and for no
+/// other.
 pub fn taken_files_stand()
-    ensures stands { (f : File) → IsTaken f → Stands f f.kept }
-    ensures alone { (f : File) (h : List Change) → IsTaken f → Stands f h → h ≡ f.kept }
-    ensures fit { (f : File) → IsTaken f → unfit_in f ≡ None }
+    ensures stands { (f : File) → IsTaken f → unfit_in f ≡ None → Stands f f.kept }
+    ensures alone { (f : File) (h : List Change) → IsTaken f → Stands f h → (h ≡ f.kept) × (unfit_in f ≡ None) }
     ensures state { (f : File) → IsTaken f → state_in f ≡ replay f.kept }
-    ensures shows { (f : File) → IsTaken f → view (replay f.kept)
-        ≡ record { depth = 0; id = root_id; entries = entries_of (replay f.kept) root_id; text = []; elements = [] } ∷ [] }
+{}
+
+/// A file that is taken is so still after an edit that is taken.
+pub fn taken_files_stay_taken()
+    ensures { (f : File) (e : Edit) (o : Outcome) (g : File) → IsTaken f → taken_editor f.mine f.kept ≡ Ok tt → taken_edit e ≡ Ok tt
+        → edited e f ≡ Ok o → o.stored ≡ Some g → is_taken g ≡ true }
 {}
 
 /// Words mean one outcome over loads, and an order does.

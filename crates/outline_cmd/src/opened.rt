@@ -1,27 +1,17 @@
 //! The file that a command reads: taken apart, found to be one that this version takes, and of a kind that the command takes.
 
-ghost use Rattle.std.specs.Prelude.{◌≡◌, ◌≢◌, ◌≤◌, List, Ok, IfOk, length};
-ghost use Rattle.model.specs.File.{File, Kind, bundle, kind_number, file_limit};
-ghost use Rattle.model.specs.State.{empty_state, after, atoms};
-ghost use Rattle.outline_cmd.specs.Document.{Holds};
+ghost use Rattle.std.specs.Prelude.{◌≡◌, ◌≤◌, List, IfOk, length};
+ghost use Rattle.model.specs.File.{File, Kind, kind_number, file_limit};
 ghost use Rattle.outline_cmd.specs.Meaning.{exactly, scanned, opened};
 ghost use Rattle.outline_cmd.specs.Opened.{IsScanned, IsOpened, AreKinds};
 ghost use Rattle.outline_cmd.specs.Outcome.{of_kind};
 ghost use Rattle.outline_cmd.specs.Scope.{taken_file};
 ghost use Rattle.outline_cmd.specs.Stages.{Follows};
 
-use crate::doc_store::Document;
 use crate::status::Status;
-use crate::taken::document_of;
+use crate::taken::is_taken;
 use replica::{BUNDLE, FileParts, ScanFault, scan_file};
 use std::alloc::Global;
-
-/// A file, and its document, which a bundle has none of.
-#[derive(Drop)]
-pub(crate) struct Opened<'a> {
-    pub(crate) parts: FileParts<'a>,
-    pub(crate) document: Document<'a>,
-}
 
 /// Takes apart the file that the bytes spell which a word of the command line names.
 fn scan<'a>(alloc: Global, word: u32, bytes: &'a [u8]) -> Result<FileParts<'a>, Status>
@@ -37,22 +27,14 @@ fn scan<'a>(alloc: Global, word: u32, bytes: &'a [u8]) -> Result<FileParts<'a>, 
     }
 }
 
-/// The document of a file that is taken.
-fn taken_document<'a>(
-    alloc: Global,
-    word: u32,
-    parts: &FileParts<'a>,
-) -> Result<Document<'a>, Status>
-    ensures told { Follows (λ document. tt) result (exactly (taken_file word parts.now)) }
-    ensures holds { parts.now.kind ≢ bundle
-        → IfOk result (λ document. Holds document (after empty_state (atoms parts.now.kept))) }
+/// Finds that a file is taken. A bundle is, whatever it carries.
+fn check_taken(word: u32, parts: &FileParts<'_>) -> Result<(), Status>
+    ensures { Follows (λ u. u) result (exactly (taken_file word parts.now)) }
 {
-    if parts.head().kind == BUNDLE {
-        return Ok(Document::new(alloc));
-    }
-    match document_of(alloc, parts)? {
-        Some(document) => Ok(document),
-        None => Err(Status::NotBuilt { word }),
+    if parts.head().kind == BUNDLE || is_taken(parts) {
+        Ok(())
+    } else {
+        Err(Status::NotBuilt { word })
     }
 }
 
@@ -74,14 +56,14 @@ pub(crate) fn open<'a>(
     word: u32,
     bytes: &'a [u8],
     kinds: &[u8],
-) -> Result<Opened<'a>, Status>
+) -> Result<FileParts<'a>, Status>
     requires { length bytes.now ≤ file_limit }
     ensures told { (taken : List Kind) → AreKinds kinds.now taken
-        → Follows (λ file. file.parts) result (opened word taken bytes.now) }
-    ensures is { IfOk result (λ file. IsOpened word bytes.now file.parts file.document) }
+        → Follows (λ parts. parts) result (opened word taken bytes.now) }
+    ensures is { IfOk result (IsOpened word bytes.now) }
 {
     let parts = scan(alloc, word, bytes)?;
-    let document = taken_document(alloc, word, &parts)?;
+    check_taken(word, &parts)?;
     check_kind(word, parts.head().kind, kinds)?;
-    Ok(Opened { parts, document })
+    Ok(parts)
 }

@@ -19,13 +19,15 @@ ghost use Rattle.outline_cmd.specs.declared.status.Status.{Status as TheStatus};
 ghost use Rattle.outline_cmd.specs.declared.status.Status.TheVariants.{Done};
 
 use crate::answer::{Answer, Store, check_size, finish};
+use crate::document::document_of;
 use crate::edit::edit_file;
 use crate::input::{check_unused, load_input};
+use crate::lines::holds_text;
 use crate::opened::open;
-use crate::outline_show::{holds_text, show_text};
 use crate::scope::{Task, names_untaken, take};
 use crate::status::Status;
 use cbor_det::{DiagnosticFault, diagnostic};
+use outline_show::show_text;
 use outline_words::{Words, read_words};
 use outside::{Keeper, Sink, Tally};
 use replica::{BadFile, DocRef, MEMBER_FILE, SNAPSHOT, found as first_file};
@@ -39,8 +41,10 @@ fn show<'w>(alloc: Global, bytes: &[u8]) -> Result<Answer<'w>, Status>
     requires { length bytes.now ≤ file_limit }
     ensures { (name : List ℕ) → Follows answer_of result (order_made_of (ordering (shows_name name)) bytes.now) }
 {
-    let file = open(alloc, 1, bytes, &BASED_FILES)?;
-    let text = show_text(alloc, file.document)?;
+    let parts = open(alloc, 1, bytes, &BASED_FILES)?;
+    let document = document_of(alloc, 1, &parts)?;
+    let view = document.view()?;
+    let text = show_text(alloc, &view)?;
     Ok(Answer { text, store: None })
 }
 

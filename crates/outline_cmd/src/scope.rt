@@ -1,22 +1,18 @@
 //! The commands that this version takes, and those that it doesn't.
 
-ghost use Rattle.std.specs.Prelude.{◌≡◌, false, IfOk, IfErr, Ok, Err};
+ghost use Rattle.std.specs.Prelude.{◌≡◌, IfOk, IfErr, Ok, Err};
 ghost use Rattle.std.specs.Option.{option_map};
 ghost use Rattle.outline_words.specs.Commands.{Says};
 ghost use Rattle.outline_words.specs.Table.{Order};
 ghost use Rattle.outline_cmd.specs.Meaning.{roles};
 ghost use Rattle.outline_cmd.specs.Scope.{untaken_names, is_one_of, taken_order, names_untaken as names_an_untaken};
 ghost use Rattle.outline_cmd.specs.Stages.{named_of};
-ghost use Rattle.op_ids.specs.Order.{root_id, id_eq};
 ghost use Rattle.outline_words.specs.Commands.{IsOrder};
 ghost use Rattle.outline_cmd.specs.Tasks.{Does};
-ghost use Rattle.outline_cmd.specs.declared.scope.Task.TheVariants.{Edit as EditTask};
-ghost use Rattle.outline_cmd.specs.declared.status.Status.TheVariants.{NotBuilt};
 
-use crate::edit::EditWords;
+use crate::edit_words::EditWords;
 use crate::input::Named;
 use crate::status::Status;
-use op_ids::{OpId, ROOT};
 use outline_words::{Command, Words};
 
 /// A command that this version takes.
@@ -78,10 +74,7 @@ fn is_untaken(word: &str) -> bool
 {
     matches!(
         word,
-        "new"
-            | "move"
-            | "trash"
-            | "type"
+        "type"
             | "erase"
             | "add"
             | "shift"
@@ -102,18 +95,6 @@ fn is_untaken(word: &str) -> bool
     )
 }
 
-/// The edit of a node, which is taken for the root alone.
-fn edit_of<'w>(name: &'w str, node: OpId, edit: EditWords<'w>) -> Result<Task<'w>, Status>
-    ensures ok { IfOk result (λ task. (node ≡ root_id) × (task ≡ EditTask name.entry edit.entry)) }
-    ensures err { IfErr result (λ status. (id_eq node root_id ≡ false) × (status ≡ NotBuilt 2)) }
-{
-    if node == ROOT {
-        Ok(Task::Edit { name, edit })
-    } else {
-        Err(Status::NotBuilt { word: 2 })
-    }
-}
-
 /// The task of a command, or NotBuilt.
 pub(crate) fn take<'w>(command: Command<'w>) -> Result<Task<'w>, Status>
     ensures ok { (order : Order) → Says command.entry order → IsOrder order → IfOk result (λ task. Does task order × (taken_order order ≡ Ok tt)) }
@@ -125,13 +106,40 @@ pub(crate) fn take<'w>(command: Command<'w>) -> Result<Task<'w>, Status>
             members: n,
             name,
         }),
+        Command::New { name, parent, i } => Ok(Task::Edit {
+            name,
+            edit: EditWords::New { parent, at: i },
+        }),
+        Command::Move {
+            name,
+            child,
+            parent,
+            i,
+        } => Ok(Task::Edit {
+            name,
+            edit: EditWords::Move {
+                child,
+                parent,
+                at: i,
+            },
+        }),
+        Command::Trash { name, child } => Ok(Task::Edit {
+            name,
+            edit: EditWords::Trash { child },
+        }),
         Command::Put {
             name,
             node,
             key,
             value,
-        } => edit_of(name, node, EditWords::Put { key, value }),
-        Command::Unset { name, node, key } => edit_of(name, node, EditWords::Unset { key }),
+        } => Ok(Task::Edit {
+            name,
+            edit: EditWords::Put { node, key, value },
+        }),
+        Command::Unset { name, node, key } => Ok(Task::Edit {
+            name,
+            edit: EditWords::Unset { node, key },
+        }),
         Command::Show { name } => Ok(Task::Show { name }),
         Command::Items { name } => Ok(Task::Items { name }),
         _ => Err(Status::NotBuilt { word: 0 }),

@@ -118,6 +118,21 @@ const EMPTY: Status = Status::Edit {
     word: 3,
 };
 
+const NO_NODE: Status = Status::Edit {
+    fault: EditFault::NoNode,
+    word: 2,
+};
+
+const NO_PLACE: Status = Status::Edit {
+    fault: EditFault::NoIndex,
+    word: 3,
+};
+
+const FIXED: Status = Status::Edit {
+    fault: EditFault::Fixed,
+    word: 2,
+};
+
 /// Words that are no command, and the first wrong one.
 const WRONG: &[(&[&str], u32)] = &[
     (&[], 0),
@@ -168,10 +183,15 @@ const REFUSALS: &[(&[&str], Status)] = &[
     (&["put", "a", "root", "", "1"], EMPTY),
     (&["unset", "a", "root", ""], EMPTY),
     (
-        &["put", "a", "1.0.0", "k", "1"],
-        Status::NotBuilt { word: 2 },
+        &["add", "a", "root", "0", "1"],
+        Status::NotBuilt { word: 0 },
     ),
-    (&["unset", "q", "trash", "k"], Status::NotBuilt { word: 2 }),
+    (&["put", "a", "1.0.0", "k", "1"], NO_NODE),
+    (&["unset", "a", "trash", "k"], NO_NODE),
+    (&["new", "a", "1.0.0", "0"], NO_NODE),
+    (&["new", "a", "root", "1"], NO_PLACE),
+    (&["move", "a", "trash", "1.0.0", "0"], FIXED),
+    (&["trash", "a", "root"], FIXED),
 ];
 
 #[test]

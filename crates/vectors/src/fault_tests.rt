@@ -49,7 +49,7 @@ const ROOM_FOR_10: Faults<'_> = Faults {
 const UNREAD: Status = Status::ReadFault { word: 1 };
 
 /// Over the file without a change. A put loads its file twice, as the second load finds its end, and `found` loads the
-/// new name once; a node that isn't built is refused before any load. A run stores once, and a store that fails leaves all
+/// new name once; a command that isn't built is refused before any load. A run stores once, and a store that fails leaves all
 /// as before. Where a print fails, the store stands, and what there is room for is printed.
 const FAULTS: &[(Faults<'_>, &[&str], Status, &str, &[u8])] = &[
     (LOAD_0, PUT, UNREAD, "", NO_CHANGE),
@@ -59,8 +59,8 @@ const FAULTS: &[(Faults<'_>, &[&str], Status, &str, &[u8])] = &[
     (LOAD_1, FOUND, Status::Done, "holds 0,1\n", NO_CHANGE),
     (
         LOAD_0,
-        &["put", "a", "1.0.0", "a", "true"],
-        Status::NotBuilt { word: 2 },
+        &["add", "a", "root", "0", "true"],
+        Status::NotBuilt { word: 0 },
         "",
         NO_CHANGE,
     ),
