@@ -1,5 +1,6 @@
-"""Large member files in four shapes: one short put per change or many, over ten keys or over keys that all differ."""
+"""Large member files of puts in four shapes: one short put per change or many, over ten keys or over keys that all differ."""
 
+import functools
 import os
 import sys
 
@@ -24,43 +25,61 @@ def one_of_its_own(place):
     return key
 
 
-# Of each shape its name, its keys, and how many puts a change has at most.
-SHAPES = [
-    (f"{puts}, {keys}", key_of, most)
-    for keys, key_of in (("ten keys", one_of_ten), ("keys that differ", one_of_its_own))
-    for puts, most in (("one put a change", 1), ("many puts a change", LARGEST_WIDTH))
-]
+class Changes:
+    """Changes of one member, to a file of at most this size, and a room for one more put."""
+
+    def __init__(self, size):
+        self.room, self.made = min(size, LARGEST_FILE) - 200, []
+
+    def is_open(self):
+        return self.room > 100
+
+    def fits(self, body):
+        """Whether a body of this length leaves room for one more operation."""
+        return body < min(self.room, LARGEST_BODY) - 100
+
+    def time(self):
+        """The time of the next change, which is its number too."""
+        return len(self.made) + 1
+
+    def add(self, operations):
+        self.made.append(change(0, self.time(), self.time(), len(MEMBERS), operations))
+        self.room -= len(self.made[-1])
+
+    def write(self, folder, lines):
+        """Writes three files: `made`; `shown`, what `show made` is to print; `after`, what `put made root new 1` is to make of it."""
+        with open(f"{folder}/shown", "w", encoding="utf-8") as file:
+            file.writelines(lines)
+        self.write_file(f"{folder}/made")
+        self.add([put("new", 1)])
+        self.write_file(f"{folder}/after")
+
+    def write_file(self, path):
+        with open(path, "wb") as file:
+            file.write(member_file(DOCUMENT, len(MEMBERS), MEMBERS, self.made))
 
 
-def make(size, key_of, most, folder):
-    """Makes three files in the folder: `made` of at most this size; `shown`, what `show made` is to print; and `after`, what
-    `put made root new 1` is to make of it."""
-    room, place = min(size, LARGEST_FILE) - 200, 0
-    shown, changes = {}, []
-    while room > 100:
+def make_puts(key_of, most, size, folder):
+    """Puts over these keys, so many a change at most."""
+    changes, place, shown = Changes(size), 0, {}
+    while changes.is_open():
         puts, body = [], 0
-        while len(puts) < most and body < min(room, LARGEST_BODY) - 100:
+        while len(puts) < most and changes.fits(body):
             key = key_of(place)
             shown[key] = place % 1000
             puts.append(put(key, shown[key]))
             body += len(puts[-1])
             place += 1
-        count = len(changes) + 1
-        changes.append(change(0, count, count, len(MEMBERS), puts))
-        room -= len(changes[-1])
-    with open(f"{folder}/made", "wb") as file:
-        file.write(member_file(DOCUMENT, len(MEMBERS), MEMBERS, changes))
-    with open(f"{folder}/shown", "w", encoding="utf-8") as file:
-        file.write("node 0 root\n")
-        file.writelines(f'key "{key}" {shown[key]}\n' for key in sorted(shown))
-    count = len(changes) + 1
-    changes.append(change(0, count, count, len(MEMBERS), [put("new", 1)]))
-    with open(f"{folder}/after", "wb") as file:
-        file.write(member_file(DOCUMENT, len(MEMBERS), MEMBERS, changes))
+        changes.add(puts)
+    changes.write(folder, ["node 0 root\n"] + [f'key "{key}" {shown[key]}\n' for key in sorted(shown)])
 
 
-def make_apart(*given):
-    apart(make, *given)
+# Of each shape its name, and what makes its files of a size in a folder.
+PUT_SHAPES = [
+    (f"{puts}, {keys}", functools.partial(make_puts, key_of, most))
+    for keys, key_of in (("ten keys", one_of_ten), ("keys that differ", one_of_its_own))
+    for puts, most in (("one put a change", 1), ("many puts a change", LARGEST_WIDTH))
+]
 
 
 def apart(makes, *given):
