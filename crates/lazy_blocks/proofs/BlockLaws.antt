@@ -1,10 +1,12 @@
 -- Blocks, from what was read of their bytes.
-use Rattle.std.proofs.Common.{◌≡◌, ℕ, ◌<◌, ◌^◌, List, length, sym, ap, subst, ◌∙◌}
+use Rattle.std.proofs.Common.{◌≡◌, ℕ, ◌<◌, ◌^◌, List, ◌++◌, length, refl, sym, ap, subst, ◌∙◌}
 use Rattle.std.specs.Prelude.{Ok}
 use Rattle.cbor_det.specs.Head.{IsBytes}
 use Rattle.cbor_det.specs.Item.{Item, IsSpelled, spell}
+use Rattle.cbor_det.specs.Unread.{Unread, Took}
 use Rattle.model.specs.Change.{Change, IsChange, change_item}
-use Rattle.op_grammar.specs.Changes.{ChangeAnswer}
+use Rattle.op_grammar.specs.Changes.{ChangeAnswer, TakesChange}
+use Rattle.op_grammar.specs.declared.TakenChange.{TakenChange}
 use Rattle.op_grammar.specs.declared.head.Head.{Head}
 use Rattle.lazy_blocks.specs.Spelled.{change_in}
 use Rattle.lazy_blocks.specs.Blocks.{change_by, HasParts, IsBlock}
@@ -32,6 +34,15 @@ block_made n b lt fits x sp e (c, is_item, is, heads, bodies) =
       is = subst (IsChange n) (sym same) is;
       span = whole ∙ ap (λ (d : Change). spell (change_item d)) (sym same);
     }
+
+-- the block of a change that was taken
+abbrev block_of : TakenChange → Inside
+block_of t = record { head = t.head; span = t.span; body = t.body }
+
+pub block_taken : (n : ℕ) (old new : Unread) (t : TakenChange) → n < 2 ^ 64 → TakesChange n old new t → Made n (block_of t) × Took (spell (change_item (change_by (block_of t)))) old new
+block_taken n old new t lt k =
+    let made = block_made n (block_of t) lt k.bytes (change_item k.change) k.spelled k.span (k.change, refl, k.is, k.head, k.body) in
+    (made, k.took ∙ ap (λ (text : List ℕ). text ++ new.rest) (sym k.span ∙ made.span))
 
 pub same_block : (b d : Inside) → d.head ≡ b.head → d.span.now ≡ b.span.now → change_by d ≡ change_by b
 same_block b d heads spans = λ i. change_in (length (heads i).causes) (spans i)

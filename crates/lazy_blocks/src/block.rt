@@ -1,15 +1,17 @@
 //! One change.
 
-ghost use Rattle.std.specs.Prelude.{◌≡◌, ◌<◌, ◌≤◌, length, IfOk, IfErr};
+ghost use Rattle.std.specs.Prelude.{◌≡◌, ◌<◌, ◌≤◌, length, IfOk, IfErr, IfSome, None};
 ghost use Rattle.cbor_det.specs.Item.{Item, IsSpelled, spell};
+ghost use Rattle.cbor_det.specs.Unread.{unread, Took};
 ghost use Rattle.model.specs.Change.{IsChange, change_item};
 ghost use Rattle.model.specs.Rules.{BreaksFirst, KeepsChange, change_rules};
 ghost use Rattle.model.specs.State.{by_ids};
 ghost use Rattle.op_grammar.specs.Rules.{rule_of};
-ghost use Rattle.op_grammar.specs.Changes.{head_of};
+ghost use Rattle.op_grammar.specs.Changes.{head_of, StandsNoChange};
 
 use crate::ops::Ops;
-use op_grammar::{Head, Rule, read_change};
+use cbor_det::Cursor;
+use op_grammar::{Head, Rule, read_change, take_change};
 use std::alloc::Global;
 use std::marker::Model;
 
@@ -46,6 +48,25 @@ impl<'a> Block<'a> {
     {
         let (head, body) = read_change(alloc, span, n)?;
         Ok(Block { head, span, body })
+    }
+
+    /// The change of a document of n members that stands at the cursor, which goes just past it; the bytes are gone over
+    /// once. Where no such change stands there the cursor stays. The allocator is for the causes, which take no memory.
+    pub fn take(alloc: Global, cursor: &mut Cursor<'a>, n: u8) -> Option<Block<'a>>
+        requires some { 0 < n }
+        requires few { n ≤ 32 }
+        ensures found { IfSome result (λ block. IsChange n block
+            × Took (spell (change_item block)) (unread cursor.old) (unread cursor.new)) }
+        ensures none { result ≡ None → StandsNoChange n (unread cursor.old) }
+        ensures len { (unread cursor.new).len ≡ (unread cursor.old).len }
+        ensures kept { result ≡ None → unread cursor.new ≡ unread cursor.old }
+    {
+        let taken = take_change(alloc, cursor, n)?;
+        Some(Block {
+            head: taken.head,
+            span: taken.span,
+            body: taken.body,
+        })
     }
 
     /// What it says but for its operations.

@@ -63,3 +63,17 @@ fn broken_changes_are_no_blocks(rt: HostRuntime) {
         Err(_) => assert!(rt; false),
     }
 }
+
+#[test]
+fn a_change_is_taken(rt: HostRuntime) {
+    let alloc = rt.alloc();
+    let mut cursor = Cursor::new(CHANGE);
+    match Block::take(alloc, &mut cursor, 2) {
+        Some(block) => assert_eq!(rt; block.bytes(), CHANGE),
+        None => assert!(rt; false),
+    }
+    assert!(rt; cursor.is_end());
+    let mut cursor = Cursor::new(BROKEN);
+    assert!(rt; Block::take(alloc, &mut cursor, 2).is_none());
+    assert_eq!(rt; cursor.at(), 0);
+}

@@ -4,6 +4,7 @@ pub mod OperationLaws
 pub mod TextLaws
 pub mod HeadLaws
 pub mod PartsLaws
+pub mod FoundLaws
 pub mod BodyLaws
 pub mod CheckLaws
 pub mod SpellingLaws

@@ -6,12 +6,12 @@ use Rattle.std.specs.List.{AllByRecursion}
 use Rattle.std.proofs.lemmas.Grind.{same_number_lists}
 use Rattle.std.proofs.lemmas.List.{drop_more, append-nil, length-map}
 use Rattle.std.specs.Borrow.{Bor}
-use Rattle.cbor_det.specs.Item.{Item, IsItem, IsSpelled, spell, unsigned, row}
+use Rattle.cbor_det.specs.Item.{Item, IsItem, spell, unsigned, row}
 use Rattle.cbor_det.specs.Unread.{Unread, unread}
 use Rattle.cbor_det.specs.Rows.{ReadsField, ReadsFields, ReadsRow}
 use Rattle.cbor_det.proofs.RowLaws.{nil_left, row_same}
 use Rattle.model.specs.Value.{numbers_item}
-use Rattle.op_grammar.specs.Parts.{SkipsNumbers, SkipsRow, Passed, HasPassed, CausesAnswer, ReadsCounts, Counted, rest_of, count_and_rest, ReadsSeven, PartsAnswer}
+use Rattle.op_grammar.specs.Parts.{SkipsNumbers, SkipsRow, Passed, HasPassed, CausesAnswer, ReadsCounts, Counted, rest_of, count_and_rest, ReadsSeven, ReadsParts, PartsAnswer}
 use Rattle.model.specs.Change.{ChangeParts}
 use Rattle.op_grammar.specs.declared.parts.Parts.{Parts}
 
@@ -235,21 +235,21 @@ module _ (o0 o1 o2 : Unread) (p : ℕ × (ℕ × ℕ)) (first : Three o0 o1 (Som
 
 -- ---- the row of a change
 
-pub seven_only : (o0 o1 : Unread) (b : List ℕ) (r : Option Parts) → o0.rest ≡ b → ReadsRow o0 o1 (Some 7) → ReadsSeven o1 r → (x : Item) → IsSpelled x → b ≡ spell x → PartsAnswer r x
-seven_only o0 o1 b r at first second x h parts =
-    let s = first x [] h.0 (at ∙ parts ∙ sym (append-nil (spell x))) in
-    subst (PartsAnswer r) (sym s.1) (second s.0 [] s.3 s.2 s.4)
+pub seven_only : (o0 o1 : Unread) (r : Option Parts) → ReadsRow o0 o1 (Some 7) → ReadsSeven o1 r → ReadsParts o0 r
+seven_only o0 o1 r first second x more h parts =
+    let s = first x more h parts in
+    subst (PartsAnswer r) (sym s.1) (second s.0 more s.3 s.2 s.4)
 
-pub not_seven : (o0 o1 : Unread) (b : List ℕ) (k : ℕ) → (k ≡ 7 → ⊥) → o0.rest ≡ b → ReadsRow o0 o1 (Some k) → (x : Item) → IsSpelled x → b ≡ spell x → PartsAnswer None x
-not_seven o0 o1 b k other at first x h parts = λ q e.
-    let s = first x [] h.0 (at ∙ parts ∙ sym (append-nil (spell x))) in
+pub not_seven : (o0 o1 : Unread) (k : ℕ) → (k ≡ 7 → ⊥) → ReadsRow o0 o1 (Some k) → ReadsParts o0 None
+not_seven o0 o1 k other first x more h parts = λ q e.
+    let s = first x more h parts in
     let seven = three (first_of_parts q) ++ numbers_item q.causes ∷ count_and_rest (rest_of_parts q) in
     other (sym s.3 ∙ ap length (row_same s.0 seven (sym s.1 ∙ e)))
 
-pub no_row_there : (o0 o1 : Unread) (b : List ℕ) (r : Option Parts) → r ≡ None → o0.rest ≡ b → ReadsRow o0 o1 None → (x : Item) → IsSpelled x → b ≡ spell x → PartsAnswer r x
-no_row_there o0 o1 b (Some w) none at first x h parts = absurd cc
-no_row_there o0 o1 b None none at first x h parts = λ q e.
-    first x [] h.0 (at ∙ parts ∙ sym (append-nil (spell x))) (three (first_of_parts q) ++ numbers_item q.causes ∷ count_and_rest (rest_of_parts q)) e
+pub no_row_there : (o0 o1 : Unread) (r : Option Parts) → r ≡ None → ReadsRow o0 o1 None → ReadsParts o0 r
+no_row_there o0 o1 (Some w) none first x more h parts = absurd cc
+no_row_there o0 o1 None none first x more h parts = λ q e.
+    first x more h parts (three (first_of_parts q) ++ numbers_item q.causes ∷ count_and_rest (rest_of_parts q)) e
 
 -- ---- the row of causes
 

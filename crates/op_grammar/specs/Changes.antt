@@ -1,12 +1,15 @@
 -- Heads of changes, and what the calls answer that look at the item of a change.
-use Rattle.std.specs.Prelude.{◌≡◌, ◌⊎◌, ℕ, ◌<◌, ◌≤◌, ◌^◌, List, length, take, Result, Ok, Err}
+use Rattle.std.specs.Prelude.{◌≡◌, ◌⊎◌, ℕ, ◌<◌, ◌≤◌, ◌^◌, List, ◌++◌, length, take, Result, Ok, Err}
 use Rattle.std.specs.Borrow.{Bor}
-use Rattle.cbor_det.specs.Item.{Item}
+use Rattle.cbor_det.specs.Head.{IsBytes}
+use Rattle.cbor_det.specs.Item.{Item, IsSpelled, spell}
+use Rattle.cbor_det.specs.Unread.{Unread, Took}
 use Rattle.model.specs.Operation.{Operation}
 use Rattle.model.specs.Change.{Change, IsChange, ChangeParts, change_item, parts_item, width, body}
 use Rattle.model.specs.Rules as model
 use Rattle.model.specs.Rules.{BreaksFirst, KeepsAll, KeepsChange, change_rules}
 use Rattle.op_grammar.specs.Rules.{rule_of}
+use Rattle.op_grammar.specs.declared.check.TakenChange.{TakenChange}
 use Rattle.op_grammar.specs.declared.head.Head.{Head}
 use Rattle.op_grammar.specs.declared.rule.Rule.{Rule}
 use Rattle.op_grammar.specs.declared.rule.Rule.TheVariants.{G6, G7}
@@ -36,6 +39,21 @@ ChangeAnswer n x (Err r) = BreaksFirst (KeepsChange n) change_rules x (rule_of r
 abbrev pub CheckAnswer : ℕ → Item → Result Head Rule → Type 0
 CheckAnswer n x (Ok h) = (c : Change) × (x ≡ change_item c) × IsChange n c × (h ≡ head_of c)
 CheckAnswer n x (Err r) = BreaksFirst (KeepsChange n) change_rules x (rule_of r)
+
+-- The change that was taken, of n members: it was spelled at the old place, and the new one is just behind it.
+pub record TakesChange (n : ℕ) (old new : Unread) (t : TakenChange) : Type 0 where
+  pub change : Change
+  pub is : IsChange n change
+  pub spelled : IsSpelled (change_item change)
+  pub head : t.head ≡ head_of change
+  pub body : t.body.now ≡ body change.operations
+  pub span : t.span.now ≡ spell (change_item change)
+  pub bytes : IsBytes t.span.now
+  pub took : Took (spell (change_item change)) old new
+
+-- no change of n members is spelled first of what is left
+abbrev pub StandsNoChange : ℕ → Unread → Type 0
+StandsNoChange n old = (c : Change) (more : List ℕ) → IsChange n c → IsSpelled (change_item c) → old.rest ≡ spell (change_item c) ++ more → ⊥
 
 -- The item says a count, or else a width, that no head holds.
 abbrev pub IsTooGreat : ChangeParts → Rule → Type 0

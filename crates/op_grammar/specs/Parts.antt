@@ -1,9 +1,10 @@
 -- What is read of the item of a change, piece by piece.
 use Rattle.std.specs.Prelude.{◌≡◌, ◌≢◌, ◌↔◌, ℕ, ◌+◌, ◌<◌, ◌≤◌, ◌^◌, List, [], ◌∷◌, ◌++◌, length, slice_index, drop, sum_by, flat_map, map, Option, None, Some, Result, Ok, Err}
 use Rattle.std.specs.List.{AllByRecursion}
-use Rattle.cbor_det.specs.Item.{Item, IsItem, spell, unsigned, bytes, row, Spells}
+use Rattle.cbor_det.specs.Head.{head}
+use Rattle.cbor_det.specs.Item.{Item, IsItem, IsSpelled, spell, unsigned, bytes, row, Spells}
 use Rattle.std.specs.Borrow.{Bor}
-use Rattle.cbor_det.specs.Unread.{Unread, unread}
+use Rattle.cbor_det.specs.Unread.{Unread, unread, Took}
 use Rattle.model.specs.Value.{numbers_item}
 use Rattle.model.specs.Operation.{Operation, IsOperation, operation_item, width_of}
 use Rattle.model.specs.Change.{ChangeParts, parts_item, body}
@@ -22,6 +23,13 @@ NumbersAnswer new None fields more = (ns : List ℕ) → fields ≢ map unsigned
 abbrev pub SkipsNumbers : ℕ → Unread → Unread → Option ℕ → Type 0
 SkipsNumbers count old new result =
     (fields : List Item) (more : List ℕ) → length fields ≡ count → AllByRecursion IsItem fields → old.rest ≡ flat_map spell fields ++ more → NumbersAnswer new result fields more
+
+-- So many numbers were spelled here.
+pub record FoundNumbers (count : ℕ) (old new : Unread) : Type 0 where
+  pub numbers : List ℕ
+  pub counted : length numbers ≡ count
+  pub items : AllByRecursion IsItem (map unsigned numbers)
+  pub took : Took (flat_map spell (map unsigned numbers)) old new
 
 -- So many numbers have been passed, and these fields are left.
 pub record Passed (count : ℕ) (now : Unread) (fields : List Item) (more : List ℕ) : Type 0 where
@@ -44,6 +52,10 @@ RowOfNumbersAnswer new None x more = (ns : List ℕ) → x ≢ numbers_item ns
 abbrev pub SkipsRow : Unread → Unread → Option ℕ → Type 0
 SkipsRow old new result = (x : Item) (more : List ℕ) → IsItem x → old.rest ≡ spell x ++ more → RowOfNumbersAnswer new result x more
 
+-- A row of numbers was spelled here.
+abbrev pub FoundRow : Unread → Unread → Type 0
+FoundRow old new = (ns : List ℕ) × IsItem (numbers_item ns) × Took (spell (numbers_item ns)) old new
+
 -- The parts that were read are these; the causes stand at their cursor.
 pub record AreParts (p : Parts) (q : ChangeParts) : Type 0 where
   pub member : q.member ≡ p.member
@@ -57,6 +69,14 @@ pub record AreParts (p : Parts) (q : ChangeParts) : Type 0 where
 abbrev pub PartsAnswer : Option Parts → Item → Type 0
 PartsAnswer (Some p) x = (q : ChangeParts) × (x ≡ parts_item q) × AreParts p q
 PartsAnswer None x = (q : ChangeParts) → x ≢ parts_item q
+
+-- A read of parts: so it answers at any item.
+abbrev pub ReadsParts : Unread → Option Parts → Type 0
+ReadsParts old result = (x : Item) (more : List ℕ) → IsItem x → old.rest ≡ spell x ++ more → PartsAnswer result x
+
+-- The parts that were read are those of the item of a change, which was spelled here.
+abbrev pub FoundParts : Unread → Unread → Parts → Type 0
+FoundParts old new p = (q : ChangeParts) × AreParts p q × IsSpelled (parts_item q) × Took (spell (parts_item q)) old new
 
 -- a width and a body, and a count before them
 abbrev pub width_body_of : ℕ × Bor (List ℕ) → ℕ × List ℕ
@@ -75,6 +95,11 @@ count_and_rest p = unsigned p.0 ∷ width_and_body p.1
 abbrev pub ReadsSeven : Unread → Option Parts → Type 0
 ReadsSeven old result =
     (fields : List Item) (more : List ℕ) → length fields ≡ 7 → AllByRecursion IsItem fields → old.rest ≡ flat_map spell fields ++ more → PartsAnswer result (row fields)
+
+-- the parts that were read are those of a change whose fields were spelled here
+abbrev pub FoundSeven : Unread → Unread → Parts → Type 0
+FoundSeven old new p =
+    (q : ChangeParts) × (text : List ℕ) × AreParts p q × IsSpelled (parts_item q) × (spell (parts_item q) ≡ head 4 7 ++ text) × Took text old new
 
 -- The parts begin with these numbers.
 abbrev pub BeginsWith : ℕ → ℕ → ℕ → ChangeParts → Type 0

@@ -1,14 +1,17 @@
 //! The rules of a change.
 
-ghost use Rattle.std.specs.Prelude.{◌≡◌, ◌↔◌, ◌<◌, ◌≤◌, length, IsTrue};
+ghost use Rattle.std.specs.Prelude.{◌≡◌, ◌↔◌, ◌-◌, ◌<◌, ◌≤◌, length, take, IsTrue, IfSome, None, Ok};
+ghost use Rattle.cbor_det.specs.Head.{IsBytes};
 ghost use Rattle.cbor_det.specs.Item.{Item, IsSpelled, spell};
+ghost use Rattle.cbor_det.specs.Unread.{unread};
 ghost use Rattle.model.specs.Change.{ChangeParts};
 ghost use Rattle.model.specs.Rules.{IsBody};
-ghost use Rattle.op_grammar.specs.Changes.{ChangeAnswer, CheckAnswer};
-ghost use Rattle.op_grammar.specs.Parts.{SpellsOperations};
+ghost use Rattle.op_grammar.specs.Changes.{ChangeAnswer, CheckAnswer, TakesChange, StandsNoChange};
+ghost use Rattle.op_grammar.specs.Parts.{SaidAnswer, SpellsOperations};
 
-use crate::head::{Head, head_of, read_said};
+use crate::head::{Head, Said, check_head, head_of, read_said};
 use crate::operation::width_of;
+use crate::parts::read_parts;
 use crate::reading::read_operation;
 use crate::rule::Rule;
 use cbor_det::{Cursor, check_sequence};
@@ -41,6 +44,13 @@ pub fn read_change<'a>(alloc: Global, span: &'a [u8], n: u8) -> Result<(Head, &'
     ensures { (x : Item) → IsSpelled x → span.now ≡ spell x → ChangeAnswer n x result }
 {
     let said = read_said(alloc, span, n)?;
+    check_body(said, n)
+}
+
+/// The head and the body of a change that says this, or the first rule that its body breaks.
+fn check_body<'a>(said: Said<'a>, n: u8) -> Result<(Head, &'a [u8]), Rule>
+    ensures { (x : Item) → SaidAnswer n x (Ok said.entry) → ChangeAnswer n x result }
+{
     if !has_operations(said.body, said.count, said.width, n) {
         if is_body(said.body, said.count) {
             return Err(Rule::G7);
@@ -49,6 +59,48 @@ pub fn read_change<'a>(alloc: Global, span: &'a [u8], n: u8) -> Result<(Head, &'
     }
     let body = said.body;
     Ok((head_of(said), body))
+}
+
+/// A change that stood at a cursor: its head, its body and all its bytes.
+#[derive(Debug, Drop)]
+pub struct TakenChange<'a> {
+    pub head: Head,
+    pub body: &'a [u8],
+    pub span: &'a [u8],
+}
+
+/// The change of a document of n members that stands at the cursor and keeps the rules of `check_change`. Else the
+/// cursor stays. The bytes are gone over once. The allocator is for the causes, which take no memory.
+pub fn take_change<'a>(alloc: Global, cursor: &mut Cursor<'a>, n: u8) -> Option<TakenChange<'a>>
+    requires some { 0 < n }
+    requires few { n ≤ 32 }
+    // A change that is taken is spelled here, and one that is spelled here is taken.
+    ensures found { IfSome result (TakesChange n (unread cursor.old) (unread cursor.new)) }
+    ensures none { result ≡ None → StandsNoChange n (unread cursor.old) }
+    ensures len { (unread cursor.new).len ≡ (unread cursor.old).len }
+    ensures kept { result ≡ None → unread cursor.new ≡ unread cursor.old }
+{
+    let rest = cursor.rest();
+    let mut ahead = *cursor;
+    let parts = read_parts(&mut ahead)?;
+    let Ok(said) = check_head(alloc, parts, n) else {
+        return None;
+    };
+    let Ok((head, body)) = check_body(said, n) else {
+        return None;
+    };
+    let span = taken_from(rest, ahead.rest());
+    *cursor = ahead;
+    Some(TakenChange { head, body, span })
+}
+
+/// The bytes that were taken, where these are left.
+fn taken_from<'a>(bytes: &'a [u8], left: &[u8]) -> &'a [u8]
+    requires { length left.now ≤ length bytes.now }
+    ensures value { result.now ≡ take (length bytes.now - length left.now) bytes.now }
+    ensures fits { IsBytes result.now }
+{
+    &bytes[..bytes.len() - left.len()]
 }
 
 /// Whether the body is short enough, and has so many items.

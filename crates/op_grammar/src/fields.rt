@@ -32,6 +32,7 @@ const MAX_VALUE_LEN: usize = 65_536;
 const MAX_RUN: u64 = 4_096;
 
 /// A number, where one stands.
+#[inline]
 pub(crate) fn read_number(cursor: &mut Cursor<'_>) -> Option<u64>
     ensures item { ReadsField (λ n. n) unsigned (λ n. Unit {0}) (unread cursor.old) (unread cursor.new) result }
     ensures took { IfSome result (λ n.
@@ -46,6 +47,7 @@ pub(crate) fn read_number(cursor: &mut Cursor<'_>) -> Option<u64>
 }
 
 /// How many items the row has that stands there.
+#[inline]
 pub(crate) fn read_row(cursor: &mut Cursor<'_>) -> Option<u64>
     ensures item { ReadsRow (unread cursor.old) (unread cursor.new) result }
     ensures took { IfSome result (λ n. Took (head 4 n) (unread cursor.old) (unread cursor.new)) }
@@ -58,6 +60,7 @@ pub(crate) fn read_row(cursor: &mut Cursor<'_>) -> Option<u64>
 }
 
 /// Two numbers that stand first in a row.
+#[inline]
 fn read_two_numbers(cursor: &mut Cursor<'_>) -> Option<(u64, u64)>
     ensures item { ReadsFields 2 (λ p. p) (λ p. unsigned p.0 ∷ unsigned p.1 ∷ []) (λ p. Unit {0} × Unit {0}) (unread cursor.old) (unread cursor.new) result }
     ensures took { IfSome result (λ p. Took (spell (unsigned p.0) ++ spell (unsigned p.1))
@@ -70,6 +73,7 @@ fn read_two_numbers(cursor: &mut Cursor<'_>) -> Option<(u64, u64)>
 }
 
 /// Three numbers that stand first in a row.
+#[inline]
 pub(crate) fn read_numbers(cursor: &mut Cursor<'_>) -> Option<(u64, (u64, u64))>
     ensures item { ReadsFields 3 (λ p. p) (λ p. unsigned p.0 ∷ unsigned p.1.0 ∷ unsigned p.1.1 ∷ []) (λ p. Unit {0} × (Unit {0} × Unit {0})) (unread cursor.old) (unread cursor.new) result }
     ensures took { IfSome result (λ p.
@@ -83,6 +87,7 @@ pub(crate) fn read_numbers(cursor: &mut Cursor<'_>) -> Option<(u64, (u64, u64))>
 }
 
 /// A row of three numbers, where one stands.
+#[inline]
 fn read_three(cursor: &mut Cursor<'_>) -> Option<(u64, (u64, u64))>
     ensures item { ReadsField (λ p. p) (λ p. row (unsigned p.0 ∷ unsigned p.1.0 ∷ unsigned p.1.1 ∷ [])) (λ p. Unit {0} × (Unit {0} × Unit {0})) (unread cursor.old) (unread cursor.new) result }
     ensures took { IfSome result (λ p.

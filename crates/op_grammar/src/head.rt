@@ -1,6 +1,6 @@
 //! Heads of changes, and what of a change they tell.
 
-ghost use Rattle.std.specs.Prelude.{◌≡◌, ◌++◌, ◌<◌, ◌≤◌, ◌^◌, ℕ, List, length, OnOk, IfErr, IfSome};
+ghost use Rattle.std.specs.Prelude.{◌≡◌, ◌++◌, ◌<◌, ◌≤◌, ◌^◌, ℕ, List, length, OnOk, IfErr, Some, IfSome};
 ghost use Rattle.cbor_det.specs.Item.{Item, IsItem, IsSpelled, spell};
 ghost use Rattle.cbor_det.specs.Unread.{unread};
 ghost use Rattle.model.specs.Value.{numbers_item};
@@ -8,10 +8,10 @@ ghost use Rattle.model.specs.Change.{ChangeParts, parts_item};
 ghost use Rattle.model.specs.Rules.{BreaksFirst, KeepsChange};
 ghost use Rattle.op_grammar.specs.Rules.{rule_of};
 ghost use Rattle.op_grammar.specs.Changes.{HeadAnswer, head_rules};
-ghost use Rattle.op_grammar.specs.Parts.{BeginsWith, CausesAnswer, ReadsCounts, SaidAnswer};
+ghost use Rattle.op_grammar.specs.Parts.{BeginsWith, CausesAnswer, ReadsCounts, PartsAnswer, SaidAnswer};
 
 use crate::fields::{read_number, read_row};
-use crate::parts::read_parts;
+use crate::parts::{Parts, read_parts};
 use crate::rule::Rule;
 use cbor_det::Cursor;
 use op_ids::MAX_TIME;
@@ -91,9 +91,19 @@ pub(crate) fn read_said<'a>(alloc: Global, span: &'a [u8], n: u8) -> Result<Said
     requires few { n ≤ 32 }
     ensures { (x : Item) → IsSpelled x → span.now ≡ spell x → SaidAnswer n x result }
 {
-    let Some(parts) = read_parts(span) else {
-        return Err(Rule::G1);
-    };
+    let mut cursor = Cursor::new(span);
+    match read_parts(&mut cursor) {
+        Some(parts) => check_head(alloc, parts, n),
+        None => Err(Rule::G1),
+    }
+}
+
+/// What the parts of a change say as a head, or the first rule that it breaks.
+pub(crate) fn check_head<'a>(alloc: Global, parts: Parts<'a>, n: u8) -> Result<Said<'a>, Rule>
+    requires some { 0 < n }
+    requires few { n ≤ 32 }
+    ensures { (x : Item) → PartsAnswer (Some parts.entry) x → SaidAnswer n x result }
+{
     check_numbers(parts.member, parts.number, parts.time, n)?;
     let member = parts.member as u8;
     let number = parts.number as u32;

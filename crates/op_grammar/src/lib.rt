@@ -18,7 +18,7 @@ mod value;
 mod writing;
 
 pub use change::{WriteFault, write_change};
-pub use check::{check_change, read_change};
+pub use check::{TakenChange, check_change, read_change, take_change};
 pub use fields::{read_id, read_side, read_value};
 pub use head::{Head, read_head};
 pub use op_ids::Side;

@@ -4,7 +4,6 @@ use Rattle.std.specs.Prelude.{Option, None, Some, slice_get, slice_index}
 use Rattle.std.specs.List.{last_or}
 use Rattle.cbor_det.specs.Item.{Item, IsSpelled, spell}
 use Rattle.std.proofs.lemmas.Bool.{eqb-true}
-use Rattle.cbor_det.proofs.SequenceLaws.{spell_unique}
 use Rattle.file_laws.proofs.BodyLaws.{plain_spelled}
 use Rattle.file_laws.proofs.FileLaws.{change_plain}
 use Rattle.model.specs.Base.{Base}
@@ -41,30 +40,25 @@ breaks_behind : (Keeps : Rule → Item → Type 0) (qs rs : List Rule) (x : Item
 breaks_behind Keeps [] rs x r all b = b
 breaks_behind Keeps (q ∷ qs) rs x r all b = inr (all.0, breaks_behind Keeps qs rs x r all.1 b)
 
-module _ (n : ℕ) (Order Next : Change → Type 0) (span : List ℕ) where
+module _ (n : ℕ) (Order Next : Change → Type 0) where
   -- where a rule of changes is broken
-  pub change_breaks : (rs : List Rule) (r : Rule) → ((x : Item) → IsSpelled x → span ≡ spell x → BreaksFirst (KeepsChange n) change_rules x r) → (x : Item) → IsSpelled x → span ≡ spell x
-      → BreaksFirst (KeepsPlace n Order Next) (change_rules ++ rs) x r
-  change_breaks rs r breaks x sp e = breaks_in_front (KeepsPlace n Order Next) change_rules rs x r (breaks x sp e)
+  pub change_breaks : (rs : List Rule) (x : Item) (r : Rule) → BreaksFirst (KeepsChange n) change_rules x r → BreaksFirst (KeepsPlace n Order Next) (change_rules ++ rs) x r
+  change_breaks rs x r b = breaks_in_front (KeepsPlace n Order Next) change_rules rs x r b
 
-  module _ (few : n ≤ 32) (short : length span < 2 ^ 32) (c : Change) (there : span ≡ spell (change_item c)) (is : IsChange n c) where
-    same_item : (x : Item) → IsSpelled x → span ≡ spell x → x ≡ change_item c
-    same_item x sp e =
-        (spell_unique x (change_item c) [] [] sp (change_is_spelled n c few is (omega (arith, ap length there))) (ap (λ (t : List ℕ). t ++ []) (sym e ∙ there))).0
-
-    keeps_all : (x : Item) → IsSpelled x → span ≡ spell x → KeepsAll (KeepsPlace n Order Next) change_rules x
-    keeps_all x sp e = changes_keep n x (omega (arith, few)) (c, same_item x sp e, is)
+  module _ (few : n ≤ 32) (c : Change) (is : IsChange n c) where
+    keeps_all : KeepsAll (KeepsPlace n Order Next) change_rules (change_item c)
+    keeps_all = changes_keep n (change_item c) (omega (arith, few)) (c, refl, is)
 
     -- where its order is broken
-    pub order_breaks : (rs : List Rule) → ((d : Change) → change_item d ≡ change_item c → Order d → Order c) → (Order c → ⊥) → (x : Item) → IsSpelled x → span ≡ spell x → BreaksFirst (KeepsPlace n Order Next) (change_rules ++ F4 ∷ rs) x F4
-    order_breaks rs move none x sp e =
-        breaks_behind (KeepsPlace n Order Next) change_rules (F4 ∷ rs) x F4 (keeps_all x sp e) (inl (refl, λ k. none (move k.0 (sym k.1 ∙ same_item x sp e) k.2)))
+    pub order_breaks : (rs : List Rule) → ((d : Change) → change_item d ≡ change_item c → Order d → Order c) → (Order c → ⊥) → BreaksFirst (KeepsPlace n Order Next) (change_rules ++ F4 ∷ rs) (change_item c) F4
+    order_breaks rs move none =
+        breaks_behind (KeepsPlace n Order Next) change_rules (F4 ∷ rs) (change_item c) F4 keeps_all (inl (refl, λ k. none (move k.0 (sym k.1) k.2)))
 
     -- where its number is
-    pub next_breaks : ((d : Change) → change_item d ≡ change_item c → Next d → Next c) → Order c → (Next c → ⊥) → (x : Item) → IsSpelled x → span ≡ spell x → BreaksFirst (KeepsPlace n Order Next) (change_rules ++ F4 ∷ F5 ∷ []) x F5
-    next_breaks move later none x sp e =
-        breaks_behind (KeepsPlace n Order Next) change_rules (F4 ∷ F5 ∷ []) x F5 (keeps_all x sp e)
-        (inr ((c, same_item x sp e, later), inl (refl, λ k. none (move k.0 (sym k.1 ∙ same_item x sp e) k.2))))
+    pub next_breaks : ((d : Change) → change_item d ≡ change_item c → Next d → Next c) → Order c → (Next c → ⊥) → BreaksFirst (KeepsPlace n Order Next) (change_rules ++ F4 ∷ F5 ∷ []) (change_item c) F5
+    next_breaks move later none =
+        breaks_behind (KeepsPlace n Order Next) change_rules (F4 ∷ F5 ∷ []) (change_item c) F5 keeps_all
+        (inr ((c, refl, later), inl (refl, λ k. none (move k.0 (sym k.1) k.2))))
 
 -- ---- the next of its member
 

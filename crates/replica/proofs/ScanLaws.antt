@@ -9,7 +9,7 @@ use Rattle.cbor_det.specs.Unread.{Unread}
 use Rattle.cbor_det.specs.declared.CborFault.{CborFault}
 use Rattle.model.specs.Base.{members}
 use Rattle.model.specs.Change.{Change, IsChange, change_item}
-use Rattle.model.specs.Rules.{Rule, F4, F5, BreaksFirst, change_rules}
+use Rattle.model.specs.Rules.{Rule, F4, F5, BreaksFirst, KeepsChange, change_rules}
 use Rattle.model.specs.File.{Header, IsHeader, IsLater, IsNextName, IsNextBehind, BaseIsReached, Front, nothing, based, FileFault, encoding, breaks, trailing, FaultIn, here_broken, more_left, KeepsPlace, IsWhole, SpellsFile, File, HasFault}
 use Rattle.model.specs.File as model
 use Rattle.model.specs.Stability.{stable_of}
@@ -17,10 +17,14 @@ use Rattle.model.specs.Held.{held_behind}
 use Rattle.model_laws.proofs.ListLaws.{all_of_any}
 use Rattle.file_laws.proofs.FileLaws.{file_reads, file_or_fault}
 use Rattle.file_laws.proofs.FileFaults.{Reads, reads_all, one_file, no_fault}
+use Rattle.op_grammar.specs.Rules.{rule_of}
 use Rattle.replica.specs.Empty.{empty_base}
 use Rattle.replica.specs.Heads.{kind_of, header_by, base_by}
 use Rattle.replica.specs.Parts.{file_with}
-use Rattle.replica.specs.Scanning.{HasOtherBase, LeadsTo, changes_front, Room, ScansKept, ScansWaiting, ScansOpening, items_before}
+use Rattle.replica.specs.Scanning.{HasOtherBase, LeadsTo, changes_front, FaultAt, IsNoChange, Room, ScansKept, ScansWaiting, ScansOpening, items_before}
+use Rattle.replica.specs.declared.fault.BadFile.TheVariants as bad
+use Rattle.replica.specs.declared.fault.ScanFault.{ScanFault}
+use Rattle.replica.specs.declared.fault.ScanFault.TheVariants.{Bad, OtherBase, NoMemory}
 use Rattle.replica.specs.declared.head.FileHead.{FileHead}
 use Rattle.replica.proofs.ChangeLaws.{change_is_spelled, by_kind}
 use Rattle.replica.proofs.CountLaws.{count-none}
@@ -49,6 +53,15 @@ module _ (h : FileHead) (first read : ℕ) (f g : Front) (old now : Unread) (so 
   broken_later x rest r sp parts b =
       so.leads.faults (breaks (first + read) r) (subst (λ l. FaultIn old.len g (first + read) l (breaks (first + read) r)) (sym parts) (here_broken g (first + read) x rest r sp b))
 
+  -- where the next item is no change
+  pub stops_later : (fault : ScanFault) → IsNoChange h.doc.n (first + read) now fault → (IsWhole g → ⊥) → ((x : Item) (r : Rule) → BreaksFirst (KeepsChange h.doc.n) change_rules x r → model.BreaksHere g x r) → FaultAt old.len f first old.rest fault
+  stops_later (Bad (bad.Cbor flaw)) wrong more broken = flawed_later flaw more wrong
+  stops_later (Bad (bad.Rule i rule)) (same, (x, rest, sp, parts, b)) more broken =
+      subst (λ k. FaultIn old.len f first old.rest (breaks k (rule_of rule))) (sym same) (broken_later x rest (rule_of rule) sp parts (broken x (rule_of rule) b))
+  stops_later (Bad (bad.Trailing at)) wrong more broken = absurd wrong
+  stops_later OtherBase wrong more broken = absurd wrong
+  stops_later NoMemory wrong more broken = absurd wrong
+
   pub goes_on : (x : Item) (g' : Front) (new : Unread) → new.len ≡ now.len → IsSpelled x → now.rest ≡ spell x ++ new.rest → model.GoesOn g x g' → SoFar h first (read + 1) f g' old new
   goes_on x g' new len sp parts goes = record {
     len = len ∙ so.len;
@@ -57,9 +70,9 @@ module _ (h : FileHead) (first read : ℕ) (f g : Front) (old now : Unread) (so 
         (leads_then old.len f g g' first (first + read) (first + read + 1) old.rest now.rest new.rest so.leads (leads_one old.len g g' (first + read) x now.rest new.rest sp goes parts));
   }
 
--- an item is no longer than what it begins
-pub span_short : (first read : ℕ) (left span rest : List ℕ) (x : Item) → first + read + length left < 2 ^ 32 → left ≡ spell x ++ rest → span ≡ spell x → length span < 2 ^ 32
-span_short first read left span rest x short parts e = omega (arith, ap length parts, ap length e, length-append (spell x) rest)
+-- a change that stands in a short file has a spelling
+pub stands_spelled : (first read : ℕ) (left rest : List ℕ) (n : ℕ) (c : Change) → first + read + length left < 2 ^ 32 → n ≤ 32 → IsChange n c → left ≡ spell (change_item c) ++ rest → IsSpelled (change_item c)
+stands_spelled first read left rest n c short few is parts = change_is_spelled n c few is (omega (arith, ap length parts, length-append (spell (change_item c)) rest, short))
 
 -- ---- kept changes
 
@@ -84,10 +97,6 @@ module _ (h : FileHead) (kept waiting : List Change) (read : ℕ) (all : length 
 
   pub waiting_goes : (c : Change) → IsChange h.doc.n c → IsNextName waiting c → model.GoesOn (changes_front h kept waiting) (change_item c) (changes_front h kept (waiting ++ c ∷ []))
   waiting_goes c is next = model.GoesOn.waiting (header_by h) (base_by h) kept waiting c all (omega (arith, counted)) is next
-
--- the item that a change was read from is its own
-pub own_item : (n : ℕ) (c : Change) (span : List ℕ) → n ≤ 32 → IsChange n c → length span < 2 ^ 32 → span ≡ spell (change_item c) → IsSpelled (change_item c)
-own_item n c span few is short there = change_is_spelled n c few is (omega (arith, ap length there))
 
 -- ---- the whole file
 

@@ -2,14 +2,18 @@
 use Rattle.std.specs.Prelude.{◌≡◌, ◌≢◌, ℕ, ◌+◌, ◌<◌, ◌≤◌, ◌^◌, List, [], ◌++◌, length, Result, Ok, Err}
 use Rattle.cbor_det.specs.Item.{Item, IsSpelled, spell}
 use Rattle.cbor_det.specs.Unread.{Unread}
+use Rattle.cbor_det.specs.FieldFaults.{FlawedHere}
 use Rattle.model.specs.Change.{Change}
+use Rattle.model.specs.Rules.{BreaksFirst, KeepsChange, change_rules}
 use Rattle.model.specs.BaseItem.{base_item}
 use Rattle.model.specs.File.{Kind, bundle, Header, header_item, IsHeader, File, SpellsFile, HasFault, Front, nothing, headed, based, FileFault, FaultIn}
 use Rattle.file_laws.proofs.FileFaults.{Reads}
+use Rattle.op_grammar.specs.Rules.{rule_of}
 use Rattle.replica.specs.Empty.{empty_base, base_in}
 use Rattle.replica.specs.Heads.{header_by, base_by}
 use Rattle.replica.specs.FaultText.{fault_of}
 use Rattle.replica.specs.declared.head.FileHead.{FileHead}
+use Rattle.replica.specs.declared.fault.BadFile.TheVariants as bad
 use Rattle.replica.specs.declared.fault.ScanFault.{ScanFault}
 use Rattle.replica.specs.declared.fault.ScanFault.TheVariants.{Bad, OtherBase, NoMemory}
 
@@ -71,6 +75,14 @@ abbrev pub ScansWaiting : ℕ → FileHead → List Change → Unread → Unread
 ScansWaiting first h kept old new (Ok waiting) =
     (length waiting ≡ h.waiting) × (new.len ≡ old.len) × LeadsTo old.len (changes_front h kept []) first old.rest (changes_front h kept waiting) (first + h.waiting) new.rest
 ScansWaiting first h kept old new (Err fault) = FaultAt old.len (changes_front h kept []) first old.rest fault
+
+-- what is wrong with the item that stands next, if it has this number and is to be a change of n members
+abbrev pub IsNoChange : ℕ → ℕ → Unread → ScanFault → Type 0
+IsNoChange n item old (Bad (bad.Cbor flaw)) = FlawedHere old flaw
+IsNoChange n item old (Bad (bad.Rule i rule)) = (i ≡ item) × ((x : Item) × (more : List ℕ) × IsSpelled x × (old.rest ≡ spell x ++ more) × BreaksFirst (KeepsChange n) change_rules x (rule_of rule))
+IsNoChange n item old (Bad (bad.Trailing at)) = ⊥
+IsNoChange n item old OtherBase = ⊥
+IsNoChange n item old NoMemory = ⊥
 
 -- how many items stand before the changes
 abbrev pub items_before : Kind → ℕ

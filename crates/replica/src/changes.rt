@@ -1,8 +1,7 @@
 //! Changes in the order of a file.
 
-ghost use Rattle.std.specs.Prelude.{◌≡◌, ◌↔◌, ◌++◌, ◌+◌, ◌∷◌, [], ◌<◌, ◌≤◌, ◌^◌, ◌&&◌, ◌||◌, ◌==◌, nat_lt, length, IsTrue, IfOk, IfErr, MatchOption, slice_index, Some, None};
+ghost use Rattle.std.specs.Prelude.{◌≡◌, ◌↔◌, ◌++◌, ◌+◌, ◌∷◌, [], ◌<◌, ◌≤◌, ◌^◌, ◌&&◌, ◌||◌, ◌==◌, nat_lt, length, IsTrue, OnOk, IfErr, MatchOption, slice_index, Some, None};
 ghost use Rattle.std.specs.List.{last_or};
-ghost use Rattle.cbor_det.specs.Item.{Item, IsSpelled, spell};
 ghost use Rattle.model.specs.Change.{Change, IsChange, change_item};
 ghost use Rattle.model.specs.Rules.{BreaksFirst, change_rules, F4, F5};
 ghost use Rattle.model.specs.File.{KeepsPlace, IsLater, IsNextName, IsNextBehind};
@@ -15,7 +14,6 @@ use crate::head::{BUNDLE, FileHead};
 use lazy_blocks::{Block, Shelf};
 use op_grammar::{Head, Rule};
 use op_ids::Stamp;
-use std::alloc::Global;
 use version_vector::Vector;
 
 /// The head of the last change, if there is one.
@@ -59,7 +57,7 @@ fn is_later(kept: &Shelf<'_>, block: &Block<'_>) -> bool
 }
 
 /// Whether a change comes after the last of these by member and number, if there is one.
-fn is_next_name(waiting: &Shelf<'_>, block: &Block<'_>) -> bool
+pub(crate) fn is_next_name(waiting: &Shelf<'_>, block: &Block<'_>) -> bool
     ensures { IsTrue result ↔ IsNextName waiting.now block.now }
 {
     match last_head(waiting) {
@@ -77,58 +75,29 @@ fn is_next(counts: &Vector, block: &Block<'_>) -> bool
     u64::from(head.number) == u64::from(counts.get(head.member)) + 1
 }
 
-/// The change that the span of an item spells, where it keeps its place behind the kept ones. The counts are those of
-/// the kept changes.
-pub(crate) fn check_kept<'a>(
-    alloc: Global,
-    span: &'a [u8],
+/// Looks at the place of a change behind the kept ones, whose counts are given: by time and member, and, where the file is no
+/// bundle, as the next of its member.
+pub(crate) fn check_kept(
+    block: &Block<'_>,
     head: &FileHead,
     kept: &Shelf<'_>,
     counts: &Vector,
-) -> Result<Block<'a>, Rule>
-    requires some { 0 < head.now.doc.n }
+) -> Result<(), Rule>
     requires few { head.now.doc.n ≤ 32 }
-    requires item { (x : Item) × IsSpelled x × (span.now ≡ spell x) }
-    requires short { length span.now < 2 ^ 32 }
+    requires change { IsChange head.now.doc.n block.now }
     requires counts { IsCounted head.now kept.now counts.now }
-    ensures ok { IfOk result (λ block. (span.now ≡ spell (change_item block)) × IsChange head.now.doc.n block
-        × IsLater kept.now block × IsNextBehind (base_by head.now) kept.now block) }
-    ensures err { IfErr result (λ rule. (x : Item) → IsSpelled x → span.now ≡ spell x
-        → BreaksFirst (KeepsPlace head.now.doc.n (IsLater kept.now) (IsNextBehind (base_by head.now) kept.now))
-        (change_rules ++ F4 ∷ F5 ∷ []) x (rule_of rule)) }
+    ensures ok { OnOk result (IsLater kept.now block.now × IsNextBehind (base_by head.now) kept.now block.now) }
+    ensures err { IfErr result (λ rule. BreaksFirst (KeepsPlace head.now.doc.n (IsLater kept.now) (IsNextBehind (base_by head.now) kept.now))
+        (change_rules ++ F4 ∷ F5 ∷ []) (change_item block.now) (rule_of rule)) }
 {
-    let block = Block::check(alloc, span, head.doc.n)?;
-    if !is_later(kept, &block) {
+    if !is_later(kept, block) {
         return Err(Rule::F4);
     }
     if head.kind == BUNDLE {
-        return Ok(block);
+        return Ok(());
     }
-    if !is_next(counts, &block) {
+    if !is_next(counts, block) {
         return Err(Rule::F5);
     }
-    Ok(block)
-}
-
-/// The change that the span of an item spells, where it keeps its place behind the waiting ones.
-pub(crate) fn check_waiting<'a>(
-    alloc: Global,
-    span: &'a [u8],
-    n: u8,
-    waiting: &Shelf<'_>,
-) -> Result<Block<'a>, Rule>
-    requires some { 0 < n }
-    requires few { n ≤ 32 }
-    requires item { (x : Item) × IsSpelled x × (span.now ≡ spell x) }
-    requires short { length span.now < 2 ^ 32 }
-    ensures ok { IfOk result (λ block. (span.now ≡ spell (change_item block)) × IsChange n block
-        × IsNextName waiting.now block) }
-    ensures err { IfErr result (λ rule. (x : Item) → IsSpelled x → span.now ≡ spell x
-        → BreaksFirst (KeepsPlace n (IsNextName waiting.now) (λ _. Unit {0})) (change_rules ++ F4 ∷ []) x (rule_of rule)) }
-{
-    let block = Block::check(alloc, span, n)?;
-    if !is_next_name(waiting, &block) {
-        return Err(Rule::F4);
-    }
-    Ok(block)
+    Ok(())
 }

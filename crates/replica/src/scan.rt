@@ -1,20 +1,22 @@
 //! The bytes of a file, taken apart item by item.
 
-ghost use Rattle.std.specs.Prelude.{◌≡◌, ◌+◌, ◌<◌, ◌≤◌, ◌^◌, length, List};
-ghost use Rattle.cbor_det.specs.Unread.{unread};
+ghost use Rattle.std.specs.Prelude.{◌≡◌, ◌+◌, ◌<◌, ◌≤◌, ◌^◌, length, List, IfOk, IfErr};
+ghost use Rattle.cbor_det.specs.Item.{spell};
+ghost use Rattle.cbor_det.specs.Unread.{unread, Took};
+ghost use Rattle.model.specs.Change.{IsChange, change_item};
 ghost use Rattle.model.specs.File.{IsHeader};
 ghost use Rattle.replica.specs.Heads.{header_by};
-ghost use Rattle.replica.specs.Scanning.{ScanAnswer, ScansKept, ScansWaiting, Room};
+ghost use Rattle.replica.specs.Scanning.{ScanAnswer, ScansKept, ScansWaiting, IsNoChange, Room};
 ghost use Rattle.replica.specs.declared.fault.BadFile.TheVariants.{Rule as BrokenRule};
 ghost use Rattle.replica.specs.declared.fault.ScanFault.TheVariants.{Bad as BadBytes};
 
-use crate::changes::{check_kept, check_waiting};
+use crate::changes::{check_kept, is_next_name};
 use crate::fault::{BadFile, ScanFault};
 use crate::head::FileHead;
 use crate::opening::{opening_len, scan_opening};
 use crate::parts::FileParts;
 use cbor_det::Cursor;
-use lazy_blocks::Shelf;
+use lazy_blocks::{Block, Shelf};
 use op_grammar::Rule;
 use std::alloc::Global;
 use version_vector::Vector;
@@ -51,14 +53,12 @@ fn scan_kept<'a>(
     let mut kept = Shelf::new(alloc);
     let mut counts = Vector::zero(alloc, head.doc.n);
     'kept: for read in 0..head.kept {
-        let span = cursor.skip_item()?;
-        match check_kept(alloc, span, head, &kept, &counts) {
-            Ok(block) => {
-                counts.raise(block.head().member, block.head().number);
-                kept.push(block)?;
-            }
-            Err(rule) => return Err(broken(first + read, rule)),
+        let block = read_block(alloc, cursor, head.doc.n, first + read)?;
+        if let Err(rule) = check_kept(&block, head, &kept, &counts) {
+            return Err(broken(first + read, rule));
         }
+        counts.raise(block.head().member, block.head().number);
+        kept.push(block)?;
     }
     Ok(kept)
 }
@@ -78,13 +78,55 @@ fn scan_waiting<'a>(
 {
     let mut waiting = Shelf::new(alloc);
     'waiting: for read in 0..head.waiting {
-        let span = cursor.skip_item()?;
-        match check_waiting(alloc, span, head.doc.n, &waiting) {
-            Ok(block) => waiting.push(block)?,
-            Err(rule) => return Err(broken(first + read, rule)),
+        let block = read_block(alloc, cursor, head.doc.n, first + read)?;
+        if !is_next_name(&waiting, &block) {
+            return Err(broken(first + read, Rule::F4));
         }
+        waiting.push(block)?;
     }
     Ok(waiting)
+}
+
+/// The change of a document of n members that stands next, as the item of this number; or what is wrong with that item.
+/// Its bytes are gone over once, and again only where something is wrong.
+fn read_block<'a>(
+    alloc: Global,
+    cursor: &mut Cursor<'a>,
+    n: u8,
+    item: u32,
+) -> Result<Block<'a>, ScanFault>
+    requires some { 0 < n }
+    requires few { n ≤ 32 }
+    ensures ok { IfOk result (λ block. IsChange n block
+        × Took (spell (change_item block)) (unread cursor.old) (unread cursor.new)) }
+    ensures err { IfErr result (IsNoChange n item (unread cursor.old)) }
+    ensures len { (unread cursor.new).len ≡ (unread cursor.old).len }
+{
+    match Block::take(alloc, cursor, n) {
+        Some(block) => Ok(block),
+        None => check_item(alloc, cursor, n, item),
+    }
+}
+
+/// The same, the item being gone over first.
+fn check_item<'a>(
+    alloc: Global,
+    cursor: &mut Cursor<'a>,
+    n: u8,
+    item: u32,
+) -> Result<Block<'a>, ScanFault>
+    requires some { 0 < n }
+    requires few { n ≤ 32 }
+    ensures ok { IfOk result (λ block. IsChange n block
+        × Took (spell (change_item block)) (unread cursor.old) (unread cursor.new)) }
+    ensures err { IfErr result (IsNoChange n item (unread cursor.old)) }
+    ensures len { (unread cursor.new).len ≡ (unread cursor.old).len }
+{
+    let span = cursor.skip_item()?;
+    match Block::check(alloc, span, n) {
+        Ok(block) => Ok(block),
+        Err(rule) => Err(broken(item, rule)),
+    }
 }
 
 /// The fault of an item that breaks a rule.

@@ -1,6 +1,7 @@
 use super::*;
 use crate::changes::check_kept;
 use cbor_det::{CborFault, Cursor, Why};
+use lazy_blocks::Block;
 use op_grammar::Rule;
 use std::alloc::{AllocError, Global};
 use std::test::Fail;
@@ -113,12 +114,12 @@ fn kept_next<'a>(
     if parts.head().kind == BUNDLE || parts.kept().len() > 1000 || bytes.len() > 200 {
         return Ok(None);
     }
-    let Ok(span) = Cursor::new(bytes).skip_item() else {
+    let Some(block) = Block::take(alloc, &mut Cursor::new(bytes), parts.head().doc.n) else {
         return Ok(None);
     };
     let counts = parts.counts(alloc);
-    match check_kept(alloc, span, parts.head(), parts.kept(), &counts) {
-        Ok(block) => Ok(Some(parts.keep(block)?)),
+    match check_kept(&block, parts.head(), parts.kept(), &counts) {
+        Ok(()) => Ok(Some(parts.keep(block)?)),
         Err(_) => Ok(None),
     }
 }
