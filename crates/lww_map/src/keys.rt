@@ -2,9 +2,9 @@
 ghost use Rattle.std.specs.Prelude.{◌≡◌, ◌++◌, OnOk, OnErr, map};
 ghost use Rattle.std.specs.FinMap as fin;
 ghost use Rattle.std.specs.BTreeMap as tree;
-ghost use Rattle.std.specs.String.{string_cmp};
-ghost use Rattle.op_grammar.specs.Values.{value_of};
-ghost use Rattle.lww_map.specs.Keys.{Keys, key_written, written_seen, tagged, rows_seen, key_list};
+ghost use Rattle.std.specs.String.{string_bytes, string_cmp};
+ghost use Rattle.op_grammar.specs.Values.{own_value_of, value_of};
+ghost use Rattle.lww_map.specs.Keys.{Keys, key_written, keys_of, written_seen, tagged, rows_seen, key_list};
 
 use crate::registers::RegisterRow;
 use cbor_det::OwnText;
@@ -12,6 +12,7 @@ use op_grammar::{OwnValue, Value};
 use op_ids::OpId;
 use std::alloc::{AllocError, Global};
 use std::collections::BTreeMap;
+use std::collections::btree_map::Entry;
 use std::marker::Model;
 
 // Who wrote a register last, and what.
@@ -66,18 +67,12 @@ impl NodeKeys {
         ensures ok { OnOk result (self.new ≡ key_written self.old key.now id (value_of value.entry)) }
         ensures err { OnErr result (self.new ≡ self.old) }
     {
-        if let Some(last) = self.keys.get(key) {
-            if !last.writer.is_before(id) {
-                return Ok(());
-            }
-        }
         let written = Written {
             writer: id,
             value: OwnValue::of(alloc, value)?,
         };
         let key = String::from_str(alloc, key)?;
-        self.keys.insert(key, written)?;
-        Ok(())
+        keep(&mut self.keys, key, written)
     }
 
     // Adds the registers behind the rows, by their keys.
@@ -91,6 +86,32 @@ impl NodeKeys {
             ≡ rows_seen rows.old.items ++ tagged node (fin.entries self.now)) }
     {
         push_all(alloc, &self.keys, node, rows)
+    }
+}
+
+// Puts the write at its key, unless one with a greater id stands there.
+#[tactic(auto, using(crate::proofs::KeyEntries::key_entries))]
+fn keep(
+    keys: &mut BTreeMap<String, Written>,
+    key: String,
+    written: Written,
+) -> Result<(), AllocError>
+    ensures ok { OnOk result (keys_of keys.new.entries
+        ≡ key_written (keys_of keys.old.entries) (string_bytes key) written.writer (own_value_of written.value)) }
+    ensures err { OnErr result (keys.new.entries ≡ keys.old.entries) }
+{
+    match keys.entry(key) {
+        Ok(Entry::Occupied(mut last)) => {
+            if last.get().writer.is_before(written.writer) {
+                last.insert(written);
+            }
+            Ok(())
+        }
+        Ok(Entry::Vacant(place)) => {
+            place.insert(written);
+            Ok(())
+        }
+        Err(_) => Err(AllocError),
     }
 }
 
