@@ -26,7 +26,8 @@ use Rattle.fugue_tree.specs.declared.children.Child.{Child}
 use Rattle.fugue_tree.specs.declared.walking.Task.{Task}
 use Rattle.fugue_tree.specs.declared.walking.Task.TheVariants.{Visit, Give}
 use Rattle.fugue_tree.specs.Tree.{at, child_cmp, child_eq, is_child_of, children_at, tasks_of, AreChildren}
-use Rattle.fugue_tree.proofs.ChildLaws.{bool_cases, child_is, child_same, is_child_of-at, one_place, ids}
+use Rattle.fugue_tree.proofs.RangeLaws.{bool_cases}
+use Rattle.fugue_tree.proofs.ChildLaws.{child_is, child_same, is_child_of-at, one_place, ids}
 use Rattle.fugue_tree.proofs.PlaceLaws.{above, falls, above_row, there, held}
 
 or_true : (a b : Bool) → b ≡ true → (a || b) ≡ true
