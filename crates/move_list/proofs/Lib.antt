@@ -4,4 +4,3 @@ pub mod ShownLaws
 pub mod TableLaws
 pub mod NodeLaws
 pub mod RowLaws
-pub mod FoundLaws

@@ -1,7 +1,7 @@
 -- The lists of all nodes as two tables.
 use Rattle.std.specs.Prelude.{◌≡◌, ◌≢◌, Bool, true, false, not, cond, ◌&&◌, ◌||◌, Option, Some, None, is_some, List, [], ◌∷◌, ◌++◌, map, filter_map, find, refl, ◌⊎◌, Result, Ok, Err, OnOk, OnErr}
 use Rattle.std.proofs.Common.{sym, ◌∙◌, ap, subst, inl, inr}
-use Rattle.std.specs.Option.{option_map}
+use Rattle.std.specs.Option.{option_map, option_map_or}
 use Rattle.std.specs.Map.{lookup, keys_of, set_value}
 use Rattle.std.specs.BTreeMap.{insert_entry, is_at}
 use Rattle.std.specs.List.{AllByRecursion, cons_option}
@@ -17,6 +17,7 @@ use Rattle.op_ids.proofs.OrderLaws.{id_cmp_total, id_cmp_exact, id_eq-exact, eq_
 use Rattle.model.specs.Value.{Value}
 use Rattle.model.specs.Operation.{Anchor, add_item, shift_item, set_item, drop_item}
 use Rattle.model.specs.State.{RowKey, row_cmp, Element, edit_row, has_anchor}
+use Rattle.model.specs.Edit.{element_position}
 use Rattle.model.specs.View.{element_is_at, element_at, element_value, live_elements, elements_of}
 use Rattle.model.specs.Walk.{Rows, walk, rows_of, owned, place_after}
 use Rattle.model_laws.specs.Arrival.{shifted_late, set_late}
@@ -116,10 +117,10 @@ pub no_item : (es : Nodes) → Rising es → (n k : OpId) → lookup (key_eq n) 
 no_item es se n k h = get_all items_in es se n k ∙ ap (λ o. joined items_in o k) h
 
 module _ (es : Nodes) (n : OpId) (u : NodeRows) (has : HasRows es n u) (t : ListTables) (view : tables_of es ≡ t) where
-  place_in : (k : OpId) → get t.positions (n, k) ≡ anchor_of u.positions k
+  pub place_in : (k : OpId) → get t.positions (n, k) ≡ anchor_of u.positions k
   place_in k = ap (λ (x : ListTables). get x.positions (n, k)) (sym view) ∙ has.places k
 
-  item_in : (k : OpId) → get t.elements (n, k) ≡ get u.elements k
+  pub item_in : (k : OpId) → get t.elements (n, k) ≡ get u.elements k
   item_in k = ap (λ (x : ListTables). get x.elements (n, k)) (sym view) ∙ has.items k
 
   pub fresh_place : (id : OpId) → get t.positions (n, id) ≡ None → is_row u.positions id ≡ false
@@ -254,6 +255,14 @@ module _ (es : Nodes) (se : Rising es) (kept : AreListsOf es) where
 
   pub head_or_none : (n left : OpId) → lookup (key_eq n) es ≡ None → has_anchor ts.positions n left ≡ true → HeadOrRow [] left
   head_or_none n left s h = head_or n left [] (λ k. no_place es se n k s) h
+
+-- An element stands at a position of its node; one that isn't there is said to stand at the head.
+pub element_anchored : (t : ListTables) (n id : OpId) → AreLists t → has_anchor t.positions n (element_position (document_of t) n id) ≡ true
+element_anchored t n id h =
+    elim (get t.elements (n, id)) as (λ o. get t.elements (n, id) ≡ o → has_anchor t.positions n (option_map_or (λ (e : Element). e.position) o root_id) ≡ true) [
+      | None ↦ λ s. refl
+      | Some e ↦ λ s. elim (id_eq e.position root_id) as (λ b. (b || is_some (get t.positions (n, e.position))) ≡ true) [ true ↦ refl | false ↦ h.position n id e s ]
+    ] refl
 
 pub placed_none : (left row : OpId) → HeadOrRow [] left → id_lt left row ≡ true → PlacedAfter [] left row
 placed_none left row h l = place_after_is_after [] left row tree_empty h refl l

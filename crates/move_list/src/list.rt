@@ -1,6 +1,7 @@
 // The list of one node.
-ghost use Rattle.std.specs.Prelude.{◌≡◌, ◌≢◌, ◌++◌, [], false, true, None, OnOk, OnErr, IfOk, map, filter_map};
+ghost use Rattle.std.specs.Prelude.{◌≡◌, ◌≢◌, ◌++◌, [], false, true, None, OnOk, OnErr, IfOk, is_some, map, filter_map};
 ghost use Rattle.std.specs.FinMap as fin;
+ghost use Rattle.std.specs.Option.{option_map_or};
 ghost use Rattle.std.specs.BTreeMap as tables;
 ghost use Rattle.op_ids.specs.Order.{id_cmp, id_lt, root_id};
 ghost use Rattle.model.specs.Walk.{place_after};
@@ -15,7 +16,7 @@ use crate::item::{self, Item};
 use crate::lists::ElementRow;
 use fugue_tree::{PlaceRow, Tree};
 use op_grammar::{OwnValue, Value};
-use op_ids::{OpId, Side};
+use op_ids::{OpId, ROOT, Side};
 use std::alloc::{AllocError, Global};
 use std::collections::BTreeMap;
 use std::marker::Model;
@@ -131,6 +132,20 @@ impl NodeList {
         item::discard(&mut self.items, element);
     }
 
+    // Whether the list has this position.
+    pub fn has_position(&self, id: OpId) -> bool
+        ensures { result ≡ is_row self.now.positions id }
+    {
+        self.positions.has(id)
+    }
+
+    // Whether the list has this element, dropped or not.
+    pub fn has_element(&self, element: OpId) -> bool
+        ensures { result ≡ is_some (fin.get self.now.elements element) }
+    {
+        self.items.contains_key(&element)
+    }
+
     // A new position, which no element takes.
     pub fn hang(&mut self, id: OpId, anchor: OpId, side: Side) -> Result<(), AllocError>
         requires new_position { is_row self.old.positions id ≡ false }
@@ -167,6 +182,16 @@ impl NodeList {
             → id_lt result.0 row ≡ true → PlacedAfter self.now.positions left row }
     {
         self.positions.place_after(left)
+    }
+
+    // The position at which the element is, or the head where there is no such element.
+    pub fn position_of(&self, element: OpId) -> OpId
+        ensures { result ≡ option_map_or (λ e. e.position) (fin.get self.now.elements element) root_id }
+    {
+        match self.items.get(&element) {
+            Some(item) => item.position,
+            None => ROOT,
+        }
     }
 
     // The ids of the elements that aren't dropped, in the order of the walk.

@@ -5,6 +5,7 @@ ghost use Rattle.std.specs.FinMap as fin;
 ghost use Rattle.std.specs.BTreeMap as tables;
 ghost use Rattle.op_ids.specs.Order.{id_cmp, id_lt, root_id};
 ghost use Rattle.model.specs.BaseItem.{keys};
+ghost use Rattle.model.specs.Edit.{element_position};
 ghost use Rattle.model.specs.Operation.{add_item, drop_item, set_item, shift_item};
 ghost use Rattle.model.specs.State.{has_anchor, row_cmp};
 ghost use Rattle.model.specs.View.{elements_of, live_elements};
@@ -151,6 +152,28 @@ impl Lists {
         }
     }
 
+    /// Whether the node's list has this position, taken by an element or not.
+    pub fn has_position(&self, node: OpId, id: OpId) -> bool
+        ensures { result ≡ is_some (fin.get self.now.positions (node, id)) }
+    {
+        let _ = self.nodes.len();
+        match self.nodes.get(&node) {
+            Some(list) => list.has_position(id),
+            None => false,
+        }
+    }
+
+    /// Whether the node has this element, dropped or not.
+    pub fn has_element(&self, node: OpId, element: OpId) -> bool
+        ensures { result ≡ is_some (fin.get self.now.elements (node, element)) }
+    {
+        let _ = self.nodes.len();
+        match self.nodes.get(&node) {
+            Some(list) => list.has_element(element),
+            None => false,
+        }
+    }
+
     /// The node's elements that aren't dropped, with their values, in the order of the walk of their positions.
     pub fn elements(&self, node: OpId) -> Result<Vec<(OpId, OwnValue)>, AllocError>
         ensures ids { IfOk result (λ v. ids_of v.items ≡ live_elements (document_of self.now) node) }
@@ -163,17 +186,35 @@ impl Lists {
         }
     }
 
+    /// The ids of the node's elements that aren't dropped, in the order of the walk of their positions.
+    pub fn element_ids(&self, node: OpId) -> Result<Vec<OpId>, AllocError>
+        ensures { IfOk result (λ v. v.items ≡ live_elements (document_of self.now) node) }
+    {
+        let _ = self.nodes.len();
+        match self.nodes.get(&node) {
+            Some(list) => list.shown(self.alloc),
+            None => Ok(Vec::new(self.alloc)),
+        }
+    }
+
     /// The id of the i-th of the node's elements that aren't dropped, from 0, or `None` exactly where there are no more than i.
     pub fn element_at(&self, node: OpId, i: u32) -> Result<Option<OpId>, AllocError>
         ensures { IfOk result (λ id. id ≡ slice_get (live_elements (document_of self.now) node) i) }
     {
+        let ids = self.element_ids(node)?;
+        Ok(ids.get(i as usize).copied())
+    }
+
+    /// The position at which the element is, dropped or not, or the head (`ROOT`) where the node has no such element. Takes no
+    /// memory.
+    pub fn position_of(&self, node: OpId, element: OpId) -> OpId
+        ensures position { result ≡ element_position (document_of self.now) node element }
+        ensures there { has_anchor self.now.positions node result ≡ true }
+    {
         let _ = self.nodes.len();
         match self.nodes.get(&node) {
-            Some(list) => {
-                let ids = list.shown(self.alloc)?;
-                Ok(ids.get(i as usize).copied())
-            }
-            None => Ok(None),
+            Some(list) => list.position_of(element),
+            None => ROOT,
         }
     }
 

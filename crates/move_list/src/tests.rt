@@ -1,8 +1,7 @@
 // What no clause says: that each call succeeds where memory is ample, and a list that was worked out by hand.
-ghost use Rattle.std.specs.Prelude.{◌≡◌, ◌≢◌, IsTrue, IfOk, None, is_some, ◌&&◌};
-ghost use Rattle.std.specs.List.{list_any};
+ghost use Rattle.std.specs.Prelude.{◌≡◌, ◌≢◌, IsTrue, None};
 ghost use Rattle.std.specs.FinMap as fin;
-ghost use Rattle.op_ids.specs.Order.{id_eq, root_id};
+ghost use Rattle.op_ids.specs.Order.{root_id};
 ghost use Rattle.move_list.specs.Lists.{HangsIn};
 
 use crate::{ElementRow, Lists, PlaceRow, Value};
@@ -90,53 +89,18 @@ const fn at(time: u64) -> OpId {
     if time == 0 { ROOT } else { id(time) }
 }
 
-// Whether a row of the node has this id.
-fn is_among_places(rows: &[PlaceRow], node: OpId, id: OpId) -> bool
-    ensures { result ≡ list_any (λ (r : PlaceRow). id_eq node r.owner && id_eq id r.id) rows.now }
-{
-    rows.iter().any(|row| node == row.owner && id == row.id)
-}
-
-fn is_among_elements(rows: &[ElementRow], node: OpId, id: OpId) -> bool
-    ensures { result ≡ list_any (λ (r : ElementRow). id_eq node r.node && id_eq id r.id) rows.now }
-{
-    rows.iter().any(|row| node == row.node && id == row.id)
-}
-
-// Whether the list of the node has this position.
-fn has_position(lists: &Lists, node: OpId, id: OpId) -> Result<bool, AllocError>
-    ensures { IfOk result (λ has. has ≡ is_some (fin.get lists.now.positions (node, id))) }
-{
-    let rows = lists.position_rows()?;
-    Ok(is_among_places(rows.as_slice(), node, id))
-}
-
-// Whether the list of the node has this element.
-fn has_element(lists: &Lists, node: OpId, id: OpId) -> Result<bool, AllocError>
-    ensures { IfOk result (λ has. has ≡ is_some (fin.get lists.now.elements (node, id))) }
-{
-    let rows = lists.element_rows()?;
-    Ok(is_among_elements(rows.as_slice(), node, id))
-}
-
 // Whether a new position may hang there.
-fn may_hang(
-    lists: &Lists,
-    node: OpId,
-    id: OpId,
-    anchor: OpId,
-    side: Side,
-) -> Result<bool, AllocError>
-    ensures { IfOk result (λ may. IsTrue may → (fin.get lists.now.positions (node, id) ≡ None) × (id ≢ root_id)
-        × HangsIn lists.now.positions node id (record { on = anchor; side = side })) }
+fn may_hang(lists: &Lists, node: OpId, id: OpId, anchor: OpId, side: Side) -> bool
+    ensures { IsTrue result → (fin.get lists.now.positions (node, id) ≡ None) × (id ≢ root_id)
+        × HangsIn lists.now.positions node id (record { on = anchor; side = side }) }
 {
-    if id == ROOT || has_position(lists, node, id)? {
-        return Ok(false);
+    if id == ROOT || lists.has_position(node, id) {
+        return false;
     }
     if anchor == ROOT && side == Side::Right {
-        return Ok(true);
+        return true;
     }
-    Ok(anchor.is_before(id) && has_position(lists, node, anchor)?)
+    anchor.is_before(id) && lists.has_position(node, anchor)
 }
 
 // Adds the element if it may be, and says whether it did.
@@ -148,8 +112,8 @@ fn add_element(
     side: Side,
     number: i64,
 ) -> Result<bool, AllocError> {
-    let has = has_element(lists, node, id)?;
-    let may = may_hang(lists, node, id, anchor, side)?;
+    let has = lists.has_element(node, id);
+    let may = may_hang(lists, node, id, anchor, side);
     if has {
         return Ok(false);
     }
@@ -168,8 +132,8 @@ fn shift_element(
     anchor: OpId,
     side: Side,
 ) -> Result<bool, AllocError> {
-    let has = has_element(lists, node, element)?;
-    let may = may_hang(lists, node, id, anchor, side)?;
+    let has = lists.has_element(node, element);
+    let may = may_hang(lists, node, id, anchor, side);
     if !has {
         return Ok(false);
     }
@@ -190,7 +154,7 @@ fn take_step(lists: &mut Lists, node: OpId, step: Step) -> Result<bool, AllocErr
         }
         Step::Set(element, writer, number) => {
             let element = id(element);
-            let has = has_element(lists, node, element)?;
+            let has = lists.has_element(node, element);
             if has {
                 lists.set(node, element, id(writer), Value::Int(number))?;
             }
@@ -198,7 +162,7 @@ fn take_step(lists: &mut Lists, node: OpId, step: Step) -> Result<bool, AllocErr
         }
         Step::Drop(element) => {
             let element = id(element);
-            let has = has_element(lists, node, element)?;
+            let has = lists.has_element(node, element);
             if has {
                 lists.drop_item(node, element);
             }
@@ -223,11 +187,11 @@ fn copy_of(alloc: Global, lists: &Lists) -> Result<Lists, AllocError> {
     Lists::from_rows(alloc, positions.as_slice(), elements.as_slice())
 }
 
-fn place_in(lists: &Lists, node: OpId, left: OpId) -> Result<Option<(OpId, Side)>, AllocError> {
-    if left == ROOT || has_position(lists, node, left)? {
-        Ok(Some(lists.place_after(node, left)))
+fn place_in(lists: &Lists, node: OpId, left: OpId) -> Option<(OpId, Side)> {
+    if left == ROOT || lists.has_position(node, left) {
+        Some(lists.place_after(node, left))
     } else {
-        Ok(None)
+        None
     }
 }
 
@@ -255,13 +219,13 @@ fn is_element(row: &ElementRow, kept: (u64, u64, u64, i64, bool)) -> bool {
         && matches!(row.value.as_value(), Value::Int(n) if n == number)
 }
 
-fn are_places(lists: &Lists) -> Result<bool, AllocError> {
+fn are_places(lists: &Lists) -> bool {
     for (left, on, side) in PLACES {
-        if place_in(lists, NODE, at(left))? != Some((id(on), side)) {
-            return Ok(false);
+        if place_in(lists, NODE, at(left)) != Some((id(on), side)) {
+            return false;
         }
     }
-    Ok(true)
+    true
 }
 
 fn are_rows(lists: &Lists) -> Result<bool, AllocError> {
@@ -287,7 +251,7 @@ fn elements_are_moved(rt: HostRuntime) -> Result<(), Fail> {
     assert!(rt; take_all(&mut lists, &ADDED)?);
     assert!(rt; shows(&lists, &FIRST)?);
     assert!(rt; take_all(&mut lists, &CHANGED)?);
-    assert!(rt; shows(&lists, &LAST)? && are_rows(&lists)? && are_places(&lists)?);
+    assert!(rt; shows(&lists, &LAST)? && are_rows(&lists)? && are_places(&lists));
     let copy = copy_of(rt.alloc(), &lists)?;
     assert!(rt; shows(&copy, &LAST)? && are_rows(&copy)?);
     assert_eq!(rt; lists.element_at(NODE, 1)?, Some(id(2)));

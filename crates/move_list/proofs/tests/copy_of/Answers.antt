@@ -1,13 +1,15 @@
 use Rattle.std.proofs.Common.{◌≡◌, ◌∙◌, ap, sym, subst, List}
 use Rattle.std.specs.List.Sorted.{IsStrictlySortedBy}
-use Rattle.std.specs.FinMap.{from_entries}
+use Rattle.std.specs.FinMap.{FinMap, entries, from_entries, get-entries, get-from_entries, same_map}
 use Rattle.model.specs.BaseItem.{keys}
 use Rattle.model.specs.Operation.{Anchor}
 use Rattle.model.specs.State.{Element, RowKey, row_cmp}
-use Rattle.model_laws.proofs.Tables.{keys_rise}
+use Rattle.model_laws.proofs.Tables.{keys_rise, row_exact, row_total}
 use Rattle.move_list.specs.Lists.{AreLists, place_entries, element_entries, tables_of_rows}
-use Rattle.move_list.proofs.FoundLaws.{come_back}
 use Rattle.move_list.proofs.tests.copy_of.Goals as goal
+
+come_back : {X : Type 0} (m : FinMap row_cmp X) → from_entries (entries m) ≡ m
+come_back m = same_map row_total row_exact _ _ (λ q. get-from_entries row_total (entries m) q ∙ sym (get-entries m q))
 
 pub from_rows-requires-clause-positions_rise : goal.from_rows-requires-clause-positions_rise
 from_rows-requires-clause-positions_rise c =
