@@ -27,7 +27,7 @@ plus_plus f k = of_change (id_plus (id_plus f 1) k) (id_plus f (suc k)) refl (om
 pub plus_then : (f : OpId) (k : ℕ) → id_plus (id_plus f k) 1 ≡ id_plus f (suc k)
 plus_then f k = of_change (id_plus (id_plus f k) 1) (id_plus f (suc k)) refl (omega arith)
 
-less_true : (m n : ℕ) → m < n → nat_lt m n ≡ true
+pub less_true : (m n : ℕ) → m < n → nat_lt m n ≡ true
 less_true m n h = grind (arith, nat_tests)
 
 pub true_less : (m n : ℕ) → nat_lt m n ≡ true → m < n

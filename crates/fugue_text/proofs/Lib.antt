@@ -6,3 +6,5 @@ pub mod TextLaws
 pub mod NextLaws
 pub mod NodeLaws
 pub mod TypedLaws
+pub mod LetterLaws
+pub mod PieceLaws

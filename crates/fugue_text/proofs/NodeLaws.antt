@@ -45,7 +45,7 @@ none_mapped : {X Y : Type 0} (f : X → Y) (o : Option X) → option_map f o ≡
 none_mapped f None h = refl
 none_mapped f (Some x) h = cc
 
-row_found : (rows : TextRows) (k : OpId) → is_row (places rows) k ≡ is_some (find id_cmp k rows)
+pub row_found : (rows : TextRows) (k : OpId) → is_row (places rows) k ≡ is_some (find id_cmp k rows)
 row_found rows k = ap is_some (find-mapped at_of k rows) ∙ some_mapped at_of (find id_cmp k rows)
 
 -- ---- the text of a node

@@ -1,6 +1,7 @@
 -- Rows in runs: where a row is, and what a change of a run makes of the rows.
 use Rattle.std.specs.Prelude.{◌≡◌, ℕ, zero, suc, ◌<◌, nat_lt, true, false, cond, Option, Some, None, is_some, List, [], ◌∷◌, ◌++◌, length, refl}
 use Rattle.std.proofs.Common.{sym, ◌∙◌, ap, subst, inl, inr, arith, append_assoc, get_or}
+use Rattle.std.specs.List.{AllByRecursion}
 use Rattle.std.specs.Map.{lookup, set_value}
 use Rattle.std.specs.BTreeMap.{insert_entry, is_at}
 use Rattle.std.specs.Ordering.{match_ordering, is_gt}
@@ -13,13 +14,13 @@ use Rattle.op_ids.specs.declared.OpId.{OpId}
 use Rattle.op_ids.specs.Order.{id_cmp, id_lt, id_plus}
 use Rattle.op_ids.proofs.OrderLaws.{id_cmp_exact}
 use Rattle.model.specs.Operation.{Anchor}
-use Rattle.model.specs.State.{Character, killed, right_of}
+use Rattle.model.specs.State.{Character, killed, right_of, run_of}
 use Rattle.walk_laws.specs.Insertion.{anchor_of, with_row}
 use Rattle.walk_laws.proofs.Walks.{key_eq, key_cases, key_equiv, key_itself, lt_back, both}
 use Rattle.fugue_text.specs.declared.run.Letter.{Letter}
 use Rattle.fugue_text.specs.declared.run.Run.{Run}
-use Rattle.fugue_text.specs.Runs.{TextRows, dead_letter, edit_one, edited, starts, letter_at, no_letter, run_anchor, run_rows, rows_of_run, rows_in, IsFilled, AreFilled, IsIn}
-use Rattle.fugue_text.proofs.IdLaws.{plus_zero, plus_plus, plus_then, plus_lt, plus_apart, plus_exact, lt_next, gt_is_lt, not_behind, within, true_less, false_le}
+use Rattle.fugue_text.specs.Runs.{TextRows, AreFree, with_letters, dead_letter, edit_one, edited, starts, letter_at, no_letter, run_anchor, run_rows, rows_of_run, rows_in, IsFilled, AreFilled, IsIn}
+use Rattle.fugue_text.proofs.IdLaws.{lt_plus, plus_zero, plus_plus, plus_then, plus_lt, plus_apart, plus_exact, lt_next, gt_is_lt, not_behind, within, true_less, false_le}
 use Rattle.fugue_text.proofs.RowLaws.{AllBefore, all_before, none_before, sorted_behind, found_behind, found_front, none_in_front, put_behind, put_front, above_front, before_trans}
 
 abbrev pub Runs : Type 0
@@ -301,13 +302,13 @@ filled_set (e ∷ es) f run d k =
       | inr ne ↦ (let apart : is_at (id_cmp f) e.0 ≡ false = ne in rw apart (d.0, filled_set es f run d.1 k))
     ]
 
--- ---- a row more at the end of a run
+-- ---- rows more at the end of a run
 
-run_more : (f : OpId) (at : Anchor) (ls : List Letter) (l : Letter) → run_rows f at (ls ++ l ∷ []) ≡ run_rows f at ls ++ (id_plus f (length ls), letter_at (anchor_at f at (length ls)) l) ∷ []
-run_more f at [] l = λ i. (sym (plus_zero f) i, letter_at at l) ∷ []
-run_more f at (x ∷ ls) l =
-    ap (λ rs. (f, letter_at at x) ∷ rs) (run_more (id_plus f 1) (right_of f) ls l
-    ∙ (λ i. run_rows (id_plus f 1) (right_of f) ls ++ (plus_plus f (length ls) i, letter_at (anchor_next f at (length ls) i) l) ∷ []))
+run_more : (f : OpId) (at : Anchor) (ls ms : List Letter) → run_rows f at (ls ++ ms) ≡ run_rows f at ls ++ run_rows (id_plus f (length ls)) (anchor_at f at (length ls)) ms
+run_more f at [] ms = ap (λ x. run_rows x at ms) (sym (plus_zero f))
+run_more f at (x ∷ ls) ms =
+    ap (λ rs. (f, letter_at at x) ∷ rs) (run_more (id_plus f 1) (right_of f) ls ms
+    ∙ (λ i. run_rows (id_plus f 1) (right_of f) ls ++ run_rows (plus_plus f (length ls) i) (anchor_next f at (length ls) i) ms))
 
 run_below : (g f : OpId) (at : Anchor) (ls : List Letter) → ((k : ℕ) → k < length ls → id_lt (id_plus f k) g ≡ true) → AllBefore (run_rows f at ls) g
 run_below g f at [] h = tt
@@ -329,24 +330,46 @@ below_next q (e ∷ rows) b n =
           rw (less, below_next q rows k.1 n') refl
     ]
 
-module _ (f : OpId) (k : ℕ) (l : Letter) (run other : Run) (same : run_anchor other ≡ run_anchor run) (more : other.letters.items ≡ run.letters.items ++ l ∷ []) (last : length run.letters.items ≡ suc k) where
+-- letters more behind rows that come before them
+letters_behind : (xs ys : TextRows) (id : OpId) (at : Anchor) (ls : List Letter) → AllBefore xs id → with_letters (xs ++ ys) id at ls ≡ xs ++ with_letters ys id at ls
+letters_behind xs ys id at [] h = refl
+letters_behind xs ys id at (l ∷ ls) h =
+    ap (λ rows. with_letters rows (id_plus id 1) (right_of id) ls) (put_behind xs ys id (letter_at at l) h)
+    ∙ letters_behind xs (put id_cmp id (letter_at at l) ys) (id_plus id 1) (right_of id) ls (before_trans id (id_plus id 1) xs h (lt_plus id 1 (omega arith)))
+
+-- letters more before rows that come behind them
+letters_front : (ys : TextRows) (id : OpId) (at : Anchor) (ls : List Letter) → below_all id_cmp id ys ≡ true → AreFree ys id (length ls) → with_letters ys id at ls ≡ run_rows id at ls ++ ys
+letters_front ys id at [] b n = refl
+letters_front ys id at (l ∷ []) b n = put_front ys id (letter_at at l) b
+letters_front ys id at (l ∷ m ∷ ls) b n =
+    let row : OpId × Character = (id, letter_at at l) in
+    ap (λ rows. with_letters rows (id_plus id 1) (right_of id) (m ∷ ls)) (put_front ys id (letter_at at l) b)
+    ∙ letters_behind (row ∷ []) ys (id_plus id 1) (right_of id) (m ∷ ls) (lt_plus id 1 (omega arith), tt)
+    ∙ ap (λ rows. row ∷ rows) (letters_front ys (id_plus id 1) (right_of id) (m ∷ ls) (below_next id ys b n.1.0) n.1)
+
+free_behind : (xs ys : TextRows) (ids : List OpId) → AllByRecursion (λ q. find id_cmp q (xs ++ ys) ≡ None) ids → AllByRecursion (λ q. find id_cmp q ys ≡ None) ids
+free_behind xs ys [] h = tt
+free_behind xs ys (q ∷ ids) h = (sym (found_behind q xs ys (none_in_front q xs ys h.0)) ∙ h.0, free_behind xs ys ids h.1)
+
+module _ (f : OpId) (k : ℕ) (ls : List Letter) (run other : Run) (same : run_anchor other ≡ run_anchor run) (more : other.letters.items ≡ run.letters.items ++ ls) (last : length run.letters.items ≡ suc k) where
   abbrev new_id : OpId
   new_id = id_plus f (suc k)
 
-  abbrev new_row : Character
-  new_row = letter_at (right_of (id_plus f k)) l
+  abbrev new_at : Anchor
+  new_at = right_of (id_plus f k)
 
   last_in : (es : Runs) → lookup (key_eq f) es ≡ Some run → IsIn es (id_plus f k) f k
   last_in es t = record { run = run; there = t; within = omega (arith, last); is = refl }
 
-  pub extend_rows : (es : Runs) → RowsRise es → lookup (key_eq f) es ≡ Some run → find id_cmp new_id (rows_in es) ≡ None → rows_in (set_value (is_at (id_cmp f)) es other) ≡ put id_cmp new_id new_row (rows_in es)
-  extend_rows [] h t n = cc
-  extend_rows (e ∷ es) h t n =
+  pub extend_rows : (es : Runs) → RowsRise es → lookup (key_eq f) es ≡ Some run → find id_cmp new_id (rows_in es) ≡ None → AreFree (rows_in es) new_id (length ls) → rows_in (set_value (is_at (id_cmp f)) es other) ≡ with_letters (rows_in es) new_id new_at ls
+  extend_rows [] h t n free = cc
+  extend_rows (e ∷ es) h t n free =
       let own = rows_of_run e in
       let rest = rows_in es in
       let none = none_in_front new_id own rest n in
       let none_behind : find id_cmp new_id rest ≡ None = sym (found_behind new_id own rest none) ∙ n in
-      elim (key_cases f e.0) as (λ _. rows_in (set_value (is_at (id_cmp f)) (e ∷ es) other) ≡ put id_cmp new_id new_row (own ++ rest)) [
+      let free_rest = free_behind own rest (run_of new_id (length ls)) free in
+      elim (key_cases f e.0) as (λ _. rows_in (set_value (is_at (id_cmp f)) (e ∷ es) other) ≡ with_letters (own ++ rest) new_id new_at ls) [
         | inl s ↦
             let yes : is_at (id_cmp f) e.0 ≡ true = ap (λ x. key_eq x e.0) s ∙ key_itself e.0 in
             let is : Some e.1 ≡ Some run = rw yes at t in
@@ -358,17 +381,17 @@ module _ (f : OpId) (k : ℕ) (l : Letter) (run other : Run) (same : run_anchor 
             subst (λ x. below_all id_cmp x rest ≡ true) (plus_then f k) (below_next (id_plus f k) rest (above_front (id_plus f k) _ own rest h found) (ap (λ x. find id_cmp x rest) (plus_then f k) ∙ none_behind)) in
             let before : AllBefore own new_id =
             run_below new_id e.0 (run_anchor e.1) e.1.letters.items (λ j m. ap (λ x. id_lt (id_plus x j) new_id) (sym s) ∙ plus_lt f j (suc k) (omega (arith, long))) in
-            let grown : rows_of_run (e.0, other) ≡ own ++ (new_id, new_row) ∷ [] =
-            (λ i. run_rows e.0 ((same ∙ ap run_anchor (sym this)) i) ((more ∙ ap (λ (r : Run). r.letters.items ++ l ∷ []) (sym this)) i)) ∙ run_more e.0 (run_anchor e.1) e.1.letters.items l
-            ∙ (λ i. own ++ (id_plus e.0 (long i), letter_at (anchor_at e.0 (run_anchor e.1) (long i)) l) ∷ []) ∙ (λ i. own ++ (id_plus (sym s i) (suc k), letter_at (right_of (id_plus (sym s i) k)) l) ∷ []) in
+            let grown : rows_of_run (e.0, other) ≡ own ++ run_rows new_id new_at ls =
+            (λ i. run_rows e.0 ((same ∙ ap run_anchor (sym this)) i) ((more ∙ ap (λ (r : Run). r.letters.items ++ ls) (sym this)) i)) ∙ run_more e.0 (run_anchor e.1) e.1.letters.items ls
+            ∙ (λ i. own ++ run_rows (id_plus e.0 (long i)) (anchor_at e.0 (run_anchor e.1) (long i)) ls) ∙ (λ i. own ++ run_rows (id_plus (sym s i) (suc k)) (right_of (id_plus (sym s i) k)) ls) in
             rw yes
-            (ap (λ rs. rs ++ rest) grown ∙ append_assoc own ((new_id, new_row) ∷ []) rest ∙ ap (λ rs. own ++ rs) (sym (put_front rest new_id new_row below)) ∙ sym (put_behind own rest new_id new_row before))
+            (ap (λ rs. rs ++ rest) grown ∙ append_assoc own (run_rows new_id new_at ls) rest ∙ ap (λ rs. own ++ rs) (sym (letters_front rest new_id new_at ls below free_rest)) ∙ sym (letters_behind own rest new_id new_at ls before))
         | inr ne ↦
             let no : is_at (id_cmp f) e.0 ≡ false = ne in
             let t' : lookup (key_eq f) es ≡ Some run = rw ne at t in
             let rise = sorted_behind own rest h in
             let before = before_trans (id_plus f k) new_id own (all_before (id_plus f k) _ own rest h (spot_found (id_plus f k) f k es rise (last_in es t'))) (plus_lt f k (suc k) (omega arith)) in
-            rw no (ap (λ rs. own ++ rs) (extend_rows es rise t' none_behind) ∙ sym (put_behind own rest new_id new_row before))
+            rw no (ap (λ rs. own ++ rs) (extend_rows es rise t' none_behind free_rest) ∙ sym (letters_behind own rest new_id new_at ls before))
       ]
 
 -- the row is the last of its run, where there is no next one

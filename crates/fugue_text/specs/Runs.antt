@@ -5,13 +5,13 @@ use Rattle.std.specs.Map.{lookup}
 use Rattle.std.specs.Option.{option_map}
 use Rattle.std.specs.Ordering.{eq_by_cmp}
 use Rattle.std.specs.BTreeSet.{BTreeSet}
-use Rattle.std.specs.FinMap.{find}
+use Rattle.std.specs.FinMap.{find, put}
 use Rattle.op_ids.specs.declared.OpId.{OpId}
 use Rattle.op_ids.specs.declared.Side.{Side}
 use Rattle.op_ids.specs.declared.Side.TheVariants.{Left, Right}
 use Rattle.op_ids.specs.Order.{id_cmp, id_plus}
 use Rattle.model.specs.Operation.{Anchor}
-use Rattle.model.specs.State.{Character, right_of}
+use Rattle.model.specs.State.{Character, right_of, run_of}
 use Rattle.model.specs.View.{is_live}
 use Rattle.model.specs.Walk.{Rows, walk}
 use Rattle.walk_laws.specs.Insertion.{anchor_of, IsInsertionTree}
@@ -65,6 +65,18 @@ no_letter = record { character = 0; dead = false }
 abbrev pub run_rows : OpId → Anchor → List Letter → TextRows
 run_rows id at [] = []
 run_rows id at (l ∷ ls) = (id, letter_at at l) ∷ run_rows (id_plus id 1) (right_of id) ls
+
+-- the rows with these more, each put in its place
+abbrev pub with_letters : TextRows → OpId → Anchor → List Letter → TextRows
+with_letters rows id at [] = rows
+with_letters rows id at (l ∷ ls) = with_letters (put id_cmp id (letter_at at l) rows) (id_plus id 1) (right_of id) ls
+
+-- no row has one of so many ids from this one on
+abbrev pub AreFree : TextRows → OpId → ℕ → Type 0
+AreFree rows id count = AllByRecursion (λ q. find id_cmp q rows ≡ None) (run_of id count)
+
+abbrev pub alive_letter : ℕ → Letter
+alive_letter c = record { character = c; dead = false }
 
 abbrev pub run_anchor : Run → Anchor
 run_anchor r = record { on = r.anchor; side = r.side }

@@ -2,6 +2,7 @@
 #![tactic(auto)]
 
 mod node_text;
+mod pieces;
 mod run;
 mod texts;
 

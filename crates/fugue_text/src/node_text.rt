@@ -1,23 +1,22 @@
 // The text of one node.
-ghost use Rattle.std.specs.Prelude.{◌≡◌, ◌≢◌, ◌+◌, ◌-◌, ◌++◌, [], false, true, None, OnOk, OnErr, IfOk, cond, filter, filter_map, is_some, length, map, option_to_list, string_bytes};
+ghost use Rattle.std.specs.Prelude.{◌≡◌, ◌≢◌, ◌+◌, ◌-◌, ◌<◌, ◌^◌, ◌++◌, [], false, true, None, OnOk, OnErr, IfOk, cond, drop, filter_map, is_some, length, string_bytes, take};
+ghost use Rattle.std.specs.List.{AllByRecursion};
 ghost use Rattle.std.specs.Str.{chars};
 ghost use Rattle.std.specs.FinMap as fin;
-ghost use Rattle.op_ids.specs.Order.{id_cmp, id_lt, root_id};
-ghost use Rattle.model.specs.State.{killed};
-ghost use Rattle.model.specs.View.{is_live};
-ghost use Rattle.model.specs.Walk.{hanging, place_after, walk};
+ghost use Rattle.op_ids.specs.Order.{id_cmp, id_lt, id_plus, root_id};
+ghost use Rattle.model.specs.State.{killed, right_of};
+ghost use Rattle.model.specs.Walk.{place_after};
 ghost use Rattle.walk_laws.specs.Insertion.{HangsWell, HeadOrRow, IsInsertionTree, Leftmost, PlacedAfter, is_row};
-ghost use Rattle.fugue_tree.specs.Tree.{IsFirstChild, tasks_of};
-ghost use Rattle.fugue_tree.specs.declared.walking.Task.TheVariants.{Visit};
+ghost use Rattle.fugue_tree.specs.Tree.{IsFirstChild};
 ghost use Rattle.move_list.specs.Kept.{tagged};
-ghost use Rattle.fugue_text.specs.Runs.{AreFilled, IsFilled, character_in, edited, letter_at, live_ids, places, rows_in, rows_of_run, weight_of};
+ghost use Rattle.fugue_text.specs.Runs.{AreFilled, AreFree, IsFilled, character_in, edited, letter_at, live_ids, places, rows_in, rows_of_run, weight_of, with_letters};
 ghost use Rattle.fugue_text.specs.Texts.{text_entries};
 
+use crate::pieces;
 use crate::run::{self, Letter, Run};
 use crate::texts::TextRow;
 use fugue_tree::children::{Child, first_child};
-use fugue_tree::walking::{Task, push_visits};
-use op_ids::{OpId, ROOT, Side};
+use op_ids::{OpId, Side};
 use std::alloc::{AllocError, Global};
 use std::collections::{BTreeMap, BTreeSet};
 use std::marker::Model;
@@ -103,6 +102,25 @@ impl NodeText {
         Ok(())
     }
 
+    // Characters more behind the last one of a run, each right of the one before.
+    pub fn type_behind(&mut self, id: OpId, letters: &[Letter]) -> Result<(), AllocError>
+        requires there { is_some (fin.find id_cmp id self.old) ≡ true }
+        requires fresh { fin.find id_cmp (id_plus id 1) self.old ≡ None }
+        requires free { AreFree self.old (id_plus id 1) (length letters.now) }
+        requires alive { AllByRecursion (λ l. l.dead ≡ false) letters.now }
+        requires fits { id.index + length letters.now < 2 ^ 32 }
+        ensures ok { OnOk result (self.new ≡ with_letters self.old (id_plus id 1) (right_of id) letters.now) }
+        ensures err { OnErr result (self.new ≡ self.old) }
+        ensures tree { IsInsertionTree (places self.new) }
+    {
+        let live = live_with_more(self.live, letters.len() as u32)?;
+        if let Some(spot) = run::spot_of(&self.runs, id) {
+            run::extend(&mut self.runs, spot, letters)?;
+            self.live = live;
+        }
+        Ok(())
+    }
+
     // Erases the character, if it is there.
     pub fn kill(&mut self, id: OpId)
         ensures now { self.new ≡ edited self.old id killed }
@@ -127,20 +145,20 @@ impl NodeText {
         }
     }
 
-    // The ids of the characters that aren't erased, in the order of the walk.
-    pub fn live_ids(&self) -> Result<Vec<OpId>, AllocError>
-        ensures { IfOk result (λ v. v.items ≡ live_ids self.now) }
+    // The ids of the characters that aren't erased, in the order of the walk: so many from this place on.
+    pub fn ids_from(&self, at: u32, count: u32) -> Result<Vec<OpId>, AllocError>
+        ensures { IfOk result (λ v. v.items ≡ take count (drop at (live_ids self.now))) }
     {
-        let walk = self.walk()?;
-        ids_alive(self.alloc, &self.runs, walk.as_slice())
+        let pieces = pieces::pieces_of(self.alloc, &self.runs, &self.children)?;
+        pieces::ids_from(self.alloc, &self.runs, pieces.as_slice(), at, count)
     }
 
     // The characters that aren't erased, in the order of the walk.
     pub fn text(&self) -> Result<String, AllocError>
         ensures { IfOk result (λ t. chars (string_bytes t) ≡ filter_map (character_in self.now) (live_ids self.now)) }
     {
-        let ids = self.live_ids()?;
-        characters_of(self.alloc, &self.runs, ids.as_slice())
+        let pieces = pieces::pieces_of(self.alloc, &self.runs, &self.children)?;
+        pieces::text_of(self.alloc, &self.runs, pieces.as_slice())
     }
 
     // Adds the rows behind the others.
@@ -148,24 +166,6 @@ impl NodeText {
         ensures { OnOk result (text_entries rows.new.items ≡ text_entries rows.old.items ++ tagged node self.now) }
     {
         push_runs(&self.runs, node, rows)
-    }
-
-    // The ids of the rows in the order in which they are read.
-    fn walk(&self) -> Result<Vec<OpId>, AllocError>
-        ensures walk { IfOk result (λ v. v.items ≡ walk (places self.now)) }
-        ensures tree { IsInsertionTree (places self.now) }
-    {
-        let mut ids = Vec::new(self.alloc);
-        let mut stack = Vec::new(self.alloc);
-        self.push_children(ROOT, Side::Right, &mut stack)?;
-        while let Some(task) = stack.pop() {
-            match task {
-                Task::Visit(id) => self.push_tasks(id, &mut stack)?,
-                Task::Give(id) => ids.push(id)?,
-            }
-        }
-        ids.reverse();
-        Ok(ids)
     }
 
     // The least row that hangs there.
@@ -189,32 +189,6 @@ impl NodeText {
         }
         at
     }
-
-    // Adds the visits of the rows that hang there.
-    fn push_children(
-        &self,
-        anchor: OpId,
-        side: Side,
-        stack: &mut Vec<Task>,
-    ) -> Result<(), AllocError>
-        ensures ok { OnOk result (stack.new.items
-            ≡ stack.old.items ++ map Visit (hanging (places self.now) anchor side)) }
-        ensures tree { IsInsertionTree (places self.now) }
-    {
-        let next = run::next_beside(&self.runs, anchor, side);
-        push_visit(next, stack)?;
-        push_visits(&self.children, anchor, side, stack)
-    }
-
-    // Adds what is to be done for a row, in the order of the walk.
-    fn push_tasks(&self, id: OpId, stack: &mut Vec<Task>) -> Result<(), AllocError>
-        ensures ok { OnOk result (stack.new.items ≡ stack.old.items ++ tasks_of (places self.now) id) }
-        ensures tree { IsInsertionTree (places self.now) }
-    {
-        self.push_children(id, Side::Left, stack)?;
-        stack.push(Task::Give(id))?;
-        self.push_children(id, Side::Right, stack)
-    }
 }
 
 // How many are alive with one character more.
@@ -222,9 +196,17 @@ fn live_with(live: u32, letter: Letter) -> Result<u32, AllocError>
     ensures { IfOk result (λ n. n ≡ live + weight_of letter.dead) }
 {
     if letter.dead {
-        return Ok(live);
+        Ok(live)
+    } else {
+        live_with_more(live, 1)
     }
-    live.checked_add(1).ok_or(AllocError)
+}
+
+// How many are alive with so many more.
+fn live_with_more(live: u32, count: u32) -> Result<u32, AllocError>
+    ensures { IfOk result (λ n. n ≡ live + count) }
+{
+    live.checked_add(count).ok_or(AllocError)
 }
 
 // How many are alive with one fewer, if it was alive.
@@ -236,68 +218,6 @@ fn live_without(live: u32, was_alive: bool) -> u32
     } else {
         live
     }
-}
-
-// Adds the visit of the row, if there is one.
-fn push_visit(row: Option<OpId>, stack: &mut Vec<Task>) -> Result<(), AllocError>
-    ensures { OnOk result (stack.new.items ≡ stack.old.items ++ map Visit (option_to_list row)) }
-{
-    if let Some(row) = row {
-        stack.push(Task::Visit(row))?;
-    }
-    Ok(())
-}
-
-// Those of the rows that aren't erased.
-fn ids_alive(
-    alloc: Global,
-    runs: &BTreeMap<OpId, Run>,
-    ids: &[OpId],
-) -> Result<Vec<OpId>, AllocError>
-    requires rising { fin.is_sorted id_cmp (rows_in runs.now.entries) ≡ true }
-    requires filled { AreFilled runs.now.entries }
-    ensures { IfOk result (λ v. v.items
-        ≡ filter (λ id. is_live (fin.find id_cmp id (rows_in runs.now.entries))) ids.now) }
-{
-    let mut alive = Vec::new(alloc);
-    for id in ids {
-        if is_alive(runs, *id) {
-            alive.push(*id)?;
-        }
-    }
-    Ok(alive)
-}
-
-// Whether the row is there and isn't erased.
-fn is_alive(runs: &BTreeMap<OpId, Run>, id: OpId) -> bool
-    requires rising { fin.is_sorted id_cmp (rows_in runs.now.entries) ≡ true }
-    requires filled { AreFilled runs.now.entries }
-    ensures { result ≡ is_live (fin.find id_cmp id (rows_in runs.now.entries)) }
-{
-    match run::letter_of(runs, id) {
-        Some(letter) => !letter.dead,
-        None => false,
-    }
-}
-
-// The characters of the rows.
-fn characters_of(
-    alloc: Global,
-    runs: &BTreeMap<OpId, Run>,
-    ids: &[OpId],
-) -> Result<String, AllocError>
-    requires rising { fin.is_sorted id_cmp (rows_in runs.now.entries) ≡ true }
-    requires filled { AreFilled runs.now.entries }
-    ensures { IfOk result (λ t. chars (string_bytes t)
-        ≡ filter_map (character_in (rows_in runs.now.entries)) ids.now) }
-{
-    let mut text = String::new(alloc);
-    for id in ids {
-        if let Some(letter) = run::letter_of(runs, *id) {
-            text.push(letter.character)?;
-        }
-    }
-    Ok(text)
 }
 
 // Adds the rows of each run behind the others.

@@ -1,15 +1,15 @@
 // Runs of characters.
-ghost use Rattle.std.specs.Prelude.{◌≡◌, ◌+◌, ◌<◌, ◌^◌, true, OnOk, OnErr, None, length, not};
+ghost use Rattle.std.specs.Prelude.{◌≡◌, ◌+◌, ◌<◌, ◌≤◌, ◌^◌, true, OnOk, OnErr, None, length, not};
 ghost use Rattle.std.proofs.Common.{get_or};
 ghost use Rattle.std.proofs.Math.ListN.{set};
-ghost use Rattle.std.specs.Option.{option_map};
 ghost use Rattle.std.specs.BTreeMap as tables;
 ghost use Rattle.std.specs.FinMap as fin;
 ghost use Rattle.op_ids.specs.Order.{id_cmp, id_plus};
 ghost use Rattle.model.specs.State.{killed, right_of};
 ghost use Rattle.model.specs.View.{is_live};
 ghost use Rattle.fugue_tree.specs.Tree.{AreChildren};
-ghost use Rattle.fugue_text.specs.Runs.{AreFilled, Continues, IsIn, IsNext, IsNextBeside, IsSpot, dead_letter, edited, letter_at, letter_of, no_letter, rows_in, run_anchor, starts};
+ghost use Rattle.fugue_text.specs.Runs.{AreFilled, Continues, AreFree, IsIn, IsNext, IsNextBeside, IsSpot, dead_letter, edited, letter_at, no_letter, rows_in, run_anchor, starts, with_letters};
+ghost use Rattle.fugue_text.specs.Pieces.{AreFrom};
 
 use fugue_tree::children::{Child, child_at};
 use op_ids::{OpId, Side};
@@ -60,15 +60,20 @@ pub fn spot_of(runs: &BTreeMap<OpId, Run>, id: OpId) -> Option<Spot>
     }
 }
 
-// The character of the row, if it is there.
-pub fn letter_of(runs: &BTreeMap<OpId, Run>, id: OpId) -> Option<Letter>
+// The letters of the row and of those behind it in its run, or none if it isn't there.
+pub fn letters_from(runs: &BTreeMap<OpId, Run>, id: OpId) -> &[Letter]
     requires rising { fin.is_sorted id_cmp (rows_in runs.now.entries) ≡ true }
     requires filled { AreFilled runs.now.entries }
-    ensures { result ≡ option_map letter_of (fin.find id_cmp id (rows_in runs.now.entries)) }
+    ensures letters { AreFrom runs.now.entries id result.now }
+    ensures fits { id.index + length result.now ≤ 2 ^ 32 }
 {
-    let spot = spot_of(runs, id)?;
-    let run = runs.get(&spot.first)?;
-    run.letters.get(spot.offset).copied()
+    let Some(spot) = spot_of(runs, id) else {
+        return &[];
+    };
+    match runs.get(&spot.first) {
+        Some(run) => &run.letters.as_slice()[spot.offset..],
+        None => &[],
+    }
 }
 
 // The row that follows in the run, if one does.
@@ -122,7 +127,7 @@ pub fn add(
     ensures index { AreChildren (starts runs.new.entries) children.new }
 {
     match continued(runs, id, anchor, side) {
-        Some(spot) => extend(runs, spot, letter),
+        Some(spot) => extend(runs, spot, &[letter]),
         None => begin(alloc, runs, children, id, anchor, side, letter),
     }
 }
@@ -182,22 +187,27 @@ fn begin(
     Ok(())
 }
 
-// A row more in a run, behind the one at the spot, which is the last.
-fn extend(runs: &mut BTreeMap<OpId, Run>, spot: Spot, letter: Letter) -> Result<(), AllocError>
+// Rows more in a run, behind the one at the spot, which is the last.
+pub fn extend(
+    runs: &mut BTreeMap<OpId, Run>,
+    spot: Spot,
+    letters: &[Letter],
+) -> Result<(), AllocError>
     requires rising { fin.is_sorted id_cmp (rows_in runs.old.entries) ≡ true }
     requires filled { AreFilled runs.old.entries }
     requires there { IsIn runs.old.entries (id_plus spot.first spot.offset) spot.first spot.offset }
     requires fresh { fin.find id_cmp (id_plus spot.first (spot.offset + 1)) (rows_in runs.old.entries) ≡ None }
-    requires fits { spot.first.index + (spot.offset + 1) < 2 ^ 32 }
+    requires free { AreFree (rows_in runs.old.entries) (id_plus spot.first (spot.offset + 1)) (length letters.now) }
+    requires fits { spot.first.index + (spot.offset + 1) + length letters.now ≤ 2 ^ 32 }
     ensures ok { OnOk result (rows_in runs.new.entries
-        ≡ fin.put id_cmp (id_plus spot.first (spot.offset + 1))
-        (letter_at (right_of (id_plus spot.first spot.offset)) letter) (rows_in runs.old.entries)) }
+        ≡ with_letters (rows_in runs.old.entries) (id_plus spot.first (spot.offset + 1))
+        (right_of (id_plus spot.first spot.offset)) letters.now) }
     ensures err { OnErr result (rows_in runs.new.entries ≡ rows_in runs.old.entries) }
     ensures filled { AreFilled runs.new.entries }
     ensures starts { starts runs.new.entries ≡ starts runs.old.entries }
 {
     if let Some(run) = runs.get_mut(&spot.first) {
-        run.letters.push(letter)?;
+        run.letters.extend_from_slice(letters)?;
     }
     Ok(())
 }

@@ -55,6 +55,8 @@ fn texts_are_typed_and_erased(rt: HostRuntime) -> Result<(), Fail> {
         assert_eq!(rt; texts.length(TRASH), 2);
         assert_eq!(rt; texts.id_at(TRASH, 1)?, Some(LAST));
         assert_eq!(rt; texts.id_at(TRASH, 2)?, None);
+        let ids = texts.ids_from(TRASH, 0, 9)?;
+        assert_eq!(rt; ids.as_slice(), [FIRST, LAST].as_slice());
         assert_eq!(rt;
             place_in(&texts, FIRST.plus(1)),
             Some((FIRST.plus(2), Side::Left))

@@ -1,18 +1,19 @@
 // The texts of all nodes.
-ghost use Rattle.std.specs.Prelude.{◌≡◌, ◌≢◌, ◌+◌, ◌<◌, ◌≤◌, ◌^◌, true, None, OnOk, OnErr, IfOk, is_some, length, slice_get};
+ghost use Rattle.std.specs.Prelude.{◌≡◌, ◌≢◌, ◌+◌, ◌<◌, ◌≤◌, ◌^◌, true, None, OnOk, OnErr, IfOk, drop, false, is_some, length, map, slice_get, take};
 ghost use Rattle.std.specs.Str.{chars};
+ghost use Rattle.std.specs.List.{AllByRecursion};
 ghost use Rattle.std.specs.List.Sorted.{IsStrictlySortedBy};
 ghost use Rattle.std.specs.BTreeMap as tables;
 ghost use Rattle.std.specs.FinMap as fin;
-ghost use Rattle.op_ids.specs.Order.{id_cmp, id_lt, root_id};
+ghost use Rattle.op_ids.specs.Order.{id_cmp, id_lt, id_plus, root_id};
 ghost use Rattle.model.specs.BaseItem.{keys};
 ghost use Rattle.model.specs.Operation.{erase_text, type_text};
-ghost use Rattle.model.specs.State.{edit_row, has_anchor, killed, row_cmp, text_step};
+ghost use Rattle.model.specs.State.{edit_row, has_anchor, killed, right_of, row_cmp, text_step, typed};
 ghost use Rattle.model.specs.View.{live_characters, text_of};
 ghost use Rattle.model.specs.Walk.{place_after, rows_of};
 ghost use Rattle.walk_laws.specs.Insertion.{PlacedAfter};
 ghost use Rattle.move_list.specs.Kept.{all_rows};
-ghost use Rattle.fugue_text.specs.Runs.{letter_at};
+ghost use Rattle.fugue_text.specs.Runs.{alive_letter, letter_at};
 ghost use Rattle.fugue_text.specs.Texts.{AreNew, AreTexts, HangsIn, IsPartTyped, document_of, own_rows, text_entries};
 
 use crate::node_text::NodeText;
@@ -86,26 +87,16 @@ impl Texts {
         ensures err { OnErr result (IsPartTyped self.old self.new node first
             (record { on = anchor; side = side }) (chars text.now)) }
     {
-        let mut on = anchor;
-        let mut at = side;
-        let mut count = 0;
-        for character in text.chars() {
-            let id = first.plus(count);
-            self.add(
-                node,
-                id,
-                on,
-                at,
-                Letter {
-                    character,
-                    dead: false,
-                },
-            )?;
-            on = id;
-            at = Side::Right;
-            count += 1;
+        let letters = alive_letters(self.alloc, text)?;
+        let letters = letters.as_slice();
+        let Some(letter) = letters.first() else {
+            return Ok(());
+        };
+        self.add(node, first, anchor, side, *letter)?;
+        if letters.len() == 1 {
+            return Ok(());
         }
-        Ok(())
+        self.type_behind(node, first, &letters[1..])
     }
 
     /// Erases so many characters of the node from the first id on, those of them that are there. Takes no memory.
@@ -156,13 +147,20 @@ impl Texts {
     pub fn id_at(&self, node: OpId, i: u32) -> Result<Option<OpId>, AllocError>
         ensures { IfOk result (λ id. id ≡ slice_get (live_characters (document_of self.now) node) i) }
     {
+        let ids = self.ids_from(node, i, 1)?;
+        Ok(ids.first().copied())
+    }
+
+    /// The ids of so many of the node's characters that aren't erased, from the one at this place on, from 0; fewer where
+    /// there are no more.
+    pub fn ids_from(&self, node: OpId, at: u32, count: u32) -> Result<Vec<OpId>, AllocError>
+        ensures { IfOk result (λ v. v.items
+            ≡ take count (drop at (live_characters (document_of self.now) node))) }
+    {
         let _ = self.nodes.len();
         match self.nodes.get(&node) {
-            Some(text) => {
-                let ids = text.live_ids()?;
-                Ok(ids.get(i as usize).copied())
-            }
-            None => Ok(None),
+            Some(text) => text.ids_from(at, count),
+            None => Ok(Vec::new(self.alloc)),
         }
     }
 
@@ -240,6 +238,23 @@ impl Texts {
         Ok(())
     }
 
+    // New characters behind the last one of a run of the node, each right of the one before.
+    fn type_behind(&mut self, node: OpId, id: OpId, letters: &[Letter]) -> Result<(), AllocError>
+        requires there { is_some (fin.get self.old (node, id)) ≡ true }
+        requires fresh { fin.get self.old (node, id_plus id 1) ≡ None }
+        requires new { AreNew self.old node (id_plus id 1) (length letters.now) }
+        requires alive { AllByRecursion (λ l. l.dead ≡ false) letters.now }
+        requires fits { id.index + length letters.now < 2 ^ 32 }
+        ensures ok { OnOk result (self.new
+            ≡ typed self.old node (id_plus id 1) (right_of id) (map (λ l. l.character) letters.now)) }
+        ensures err { OnErr result (self.new ≡ self.old) }
+    {
+        if let Some(text) = self.nodes.get_mut(&node) {
+            return text.type_behind(id, letters);
+        }
+        Ok(())
+    }
+
     // Erases a character of the node, if it is there.
     fn kill(&mut self, node: OpId, id: OpId)
         ensures now { self.new ≡ edit_row self.old (node, id) killed }
@@ -262,4 +277,18 @@ fn rows_in(alloc: Global, nodes: &BTreeMap<OpId, NodeText>) -> Result<Vec<TextRo
         text.push_rows(*node, &mut rows)?;
     }
     Ok(rows)
+}
+
+// The characters of a text as letters that aren't erased.
+fn alive_letters(alloc: Global, text: &str) -> Result<Vec<Letter>, AllocError>
+    ensures { IfOk result (λ v. v.items ≡ map alive_letter (chars text.now)) }
+{
+    let mut letters = Vec::with_capacity(alloc, text.len())?;
+    for character in text.chars() {
+        letters.push(Letter {
+            character,
+            dead: false,
+        })?;
+    }
+    Ok(letters)
 }

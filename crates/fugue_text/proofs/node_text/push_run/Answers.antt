@@ -1,4 +1,4 @@
-use Rattle.std.proofs.Common.{◌≡◌, ◌∙◌, ap, sym, refl, ◌+◌, ◌≤◌, ℕ, zero, suc, List, [], ◌∷◌, ◌++◌, length, drop, get_or, append_assoc, arith}
+use Rattle.std.proofs.Common.{◌≡◌, ◌∙◌, ap, sym, refl, ◌+◌, suc, List, [], ◌∷◌, ◌++◌, length, drop, get_or, append_assoc, arith}
 use Rattle.std.proofs.lemmas.List.{map-append, append-nil, drop_more}
 use Rattle.op_ids.specs.Order.{id_plus}
 use Rattle.model.specs.Operation.{Anchor}
@@ -7,14 +7,9 @@ use Rattle.move_list.specs.Kept.{tagged}
 use Rattle.fugue_text.specs.declared.run.Letter.{Letter}
 use Rattle.fugue_text.specs.Runs.{letter_at, no_letter, run_anchor, run_rows}
 use Rattle.fugue_text.specs.Texts.{text_entries, text_entry}
+use Rattle.fugue_text.proofs.LetterLaws.{drop_past}
 use Rattle.fugue_text.proofs.IdLaws.{plus_zero, plus_then}
 use Rattle.fugue_text.proofs.node_text.push_run.Goals as goal
-
-drop_past : (ls : List Letter) (i : ℕ) → length ls ≤ i → drop i ls ≡ []
-drop_past [] zero h = refl
-drop_past [] (suc i) h = refl
-drop_past (l ∷ ls) zero h = absurd (omega arith)
-drop_past (l ∷ ls) (suc i) h = drop_past ls i (omega arith)
 
 pub loop-letter-init : goal.loop-letter-init
 loop-letter-init c =

@@ -1,108 +1,70 @@
-use Rattle.std.proofs.Common.{◌≡◌, ◌∙◌, ap, sym, subst, ◌+◌, ◌<◌, ◌≤◌, ℕ, zero, suc, None, List, [], ◌∷◌, ◌++◌, length, take, drop, arith, refl}
-use Rattle.std.specs.Prelude.{encode_utf8}
+use Rattle.std.proofs.Common.{◌≡◌, ◌∙◌, ap, sym, subst, ◌-◌, List, ◌∷◌, length, drop, take, map, arith}
+use Rattle.std.proofs.lemmas.Result.{on_err_weaker, on_ok_weaker}
 use Rattle.std.specs.Str.{chars}
-use Rattle.std.specs.Str.Iter.{chars_rest}
-use Rattle.std.proofs.lemmas.Str.{chars-nil, chars_past_char, IsUtf8-past_char}
-use Rattle.std.specs.FinMap.{get, insert}
-use Rattle.op_ids.specs.declared.Side.TheVariants.{Right}
-use Rattle.op_ids.specs.Order.{id_plus}
 use Rattle.model.specs.Operation.{Anchor}
 use Rattle.model.specs.State.{typed}
-use Rattle.fugue_text.specs.Texts.{HangsIn, Table}
-use Rattle.fugue_text.proofs.RunLaws.{anchor_at}
-use Rattle.fugue_text.proofs.TypedLaws.{run_all, typed_more, typed_behind, typed_hangs, no_root, drop_head, drop_none, live_row}
+use Rattle.fugue_text.specs.declared.run.Letter.{Letter}
+use Rattle.fugue_text.specs.Runs.{alive_letter}
+use Rattle.fugue_text.proofs.LetterLaws.{take_rest}
+use Rattle.fugue_text.proofs.TypedLaws as laws
+use Rattle.fugue_text.proofs.TypedLaws.{AreAlive, Begins}
 use Rattle.fugue_text.proofs.texts.Texts.type_run.Goals as goal
+use Rattle.fugue_text.proofs.texts.Texts.type_run.Goals.{In_ok-add}
 
-take_len : (cs : List ℕ) (n : ℕ) → n ≤ length cs → length (take n cs) ≡ n
-take_len cs zero h = refl
-take_len [] (suc n) h = absurd (omega arith)
-take_len (c ∷ cs) (suc n) h = ap suc (take_len cs n (omega arith))
+abbrev at_of : In_ok-add → Anchor
+at_of c = record { on = c.args.anchor; side = c.args.side }
 
-pub plus-id-requires : goal.plus-id-requires
-plus-id-requires c =
-    let cs = chars c.args.text.now in
-    let inv = c.loop-character.invariant in
-    let n = c.loop-character.count in
-    let a : Anchor = record { on = c.args.anchor; side = c.args.side } in
-    let x = c.in-Some.character in
-    let step : chars_rest c.loop-character.character-iterator ≡ encode_utf8 x ++ chars_rest c.next.new.self = c.in-Some.ensures.steps.0 in
-    let head : chars (chars_rest c.loop-character.character-iterator) ≡ x ∷ chars (chars_rest c.next.new.self) = chars_past_char (chars_rest c.loop-character.character-iterator) (chars_rest c.next.new.self) x inv.utf8 step in
-    let next = drop_head cs n x (chars (chars_rest c.next.new.self)) (inv.rest ∙ head) in
-    let less : n < length cs = next.0 in
-    let most : n ≤ length cs = inv.most in
-    let size : length (take n cs) ≡ n = take_len cs n most in
-    omega (arith, less, c.requires.in_range)
+begins : (c : In_ok-add) → Begins (chars c.args.text.now) c.as_slice-letters.result.now c.in-Some.letter.now
+begins c = laws.begins (chars c.args.text.now) c.as_slice-letters.result.now c.in-Some.letter.now (c.as_slice-letters.ensures.value ∙ c.in_ok-letters.ensures) c.in-Some.ensures.value
 
-pub add-requires-clause-new : goal.add-requires-clause-new
-add-requires-clause-new c =
-    let cs = chars c.args.text.now in
-    let inv = c.loop-character.invariant in
-    let n = c.loop-character.count in
-    let a : Anchor = record { on = c.args.anchor; side = c.args.side } in
-    let x = c.in-Some.character in
-    let step : chars_rest c.loop-character.character-iterator ≡ encode_utf8 x ++ chars_rest c.next.new.self = c.in-Some.ensures.steps.0 in
-    let head : chars (chars_rest c.loop-character.character-iterator) ≡ x ∷ chars (chars_rest c.next.new.self) = chars_past_char (chars_rest c.loop-character.character-iterator) (chars_rest c.next.new.self) x inv.utf8 step in
-    let next = drop_head cs n x (chars (chars_rest c.next.new.self)) (inv.rest ∙ head) in
-    let less : n < length cs = next.0 in
-    let most : n ≤ length cs = inv.most in
-    let size : length (take n cs) ≡ n = take_len cs n most in
-    (λ i. get (inv.now i) (c.args.node, c.plus-id.ensures i)) ∙ typed_behind c.args.node c.args.self.now c.args.first a (take n cs) n (omega (arith, size))
-    ∙ run_all (λ id. get c.args.self.now (c.args.node, id) ≡ None) c.args.first (length cs) n c.requires.new less
+rest_is : (c : In_ok-add) → take (length c.as_slice-letters.result.now - 1) (drop 1 c.as_slice-letters.result.now) ≡ map alive_letter (begins c).rest
+rest_is c = take_rest 1 c.as_slice-letters.result.now ∙ ap (drop 1) (begins c).letters
 
-pub add-requires-clause-no_head : goal.add-requires-clause-no_head
-add-requires-clause-no_head c = λ e. no_root c.args.first c.loop-character.count c.requires.no_head (sym c.plus-id.ensures ∙ e)
+pub returns-then-letters-eq1-clause-ok : goal.returns-then-letters-eq1-clause-ok
+returns-then-letters-eq1-clause-ok c =
+    let u = (goal.at.returns-then-letters-eq1-clause-ok c).In_ok-add in
+    let b = begins u in
+    laws.begun c.args.self.now c.args.node c.args.first (at_of u) (chars c.args.text.now) c.as_slice-letters.result.now c.in-Some.letter.now b c.add.new.self c.in_ok-add.ensures.ok
+    ∙ ap (typed c.args.self.now c.args.node c.args.first (at_of u))
+    (sym (laws.only_one c.args.self.now c.args.node c.args.first (at_of u) (chars c.args.text.now) c.as_slice-letters.result.now c.in-Some.letter.now b c.if-letters-eq1.true))
 
-pub add-requires-clause-hangs : goal.add-requires-clause-hangs
-add-requires-clause-hangs c =
-    let cs = chars c.args.text.now in
-    let inv = c.loop-character.invariant in
-    let n = c.loop-character.count in
-    let a : Anchor = record { on = c.args.anchor; side = c.args.side } in
-    let x = c.in-Some.character in
-    let step : chars_rest c.loop-character.character-iterator ≡ encode_utf8 x ++ chars_rest c.next.new.self = c.in-Some.ensures.steps.0 in
-    let head : chars (chars_rest c.loop-character.character-iterator) ≡ x ∷ chars (chars_rest c.next.new.self) = chars_past_char (chars_rest c.loop-character.character-iterator) (chars_rest c.next.new.self) x inv.utf8 step in
-    let next = drop_head cs n x (chars (chars_rest c.next.new.self)) (inv.rest ∙ head) in
-    let less : n < length cs = next.0 in
-    let most : n ≤ length cs = inv.most in
-    let size : length (take n cs) ≡ n = take_len cs n most in
-    let hung : HangsIn (typed c.args.self.now c.args.node c.args.first a (take n cs)) c.args.node (id_plus c.args.first n) (anchor_at c.args.first a n) = typed_hangs c.args.node c.args.self.now c.args.first a (take n cs) n size c.requires.hangs in
-    subst (λ (s : Table). HangsIn s c.args.node c.plus-id.result (record { on = c.loop-character.on; side = c.loop-character.at })) (sym inv.now)
-    (subst (λ id. HangsIn (typed c.args.self.now c.args.node c.args.first a (take n cs)) c.args.node id (record { on = c.loop-character.on; side = c.loop-character.at })) (sym c.plus-id.ensures)
-    (subst (λ p. HangsIn (typed c.args.self.now c.args.node c.args.first a (take n cs)) c.args.node (id_plus c.args.first n) p) (sym inv.place) hung))
+pub type_behind-requires-clause-there : goal.type_behind-requires-clause-there
+type_behind-requires-clause-there c =
+    let u = (goal.at.type_behind-requires-clause-there c).In_ok-add in
+    laws.begun_there c.args.self.now c.args.node c.args.first (at_of u) (chars c.args.text.now) c.as_slice-letters.result.now c.in-Some.letter.now (begins u) c.add.new.self c.in_ok-add.ensures.ok
 
-pub loop-character-preserved : goal.loop-character-preserved
-loop-character-preserved c =
-    let cs = chars c.args.text.now in
-    let inv = c.loop-character.invariant in
-    let n = c.loop-character.count in
-    let a : Anchor = record { on = c.args.anchor; side = c.args.side } in
-    let x = c.in-Some.character in
-    let step : chars_rest c.loop-character.character-iterator ≡ encode_utf8 x ++ chars_rest c.next.new.self = c.in-Some.ensures.steps.0 in
-    let head : chars (chars_rest c.loop-character.character-iterator) ≡ x ∷ chars (chars_rest c.next.new.self) = chars_past_char (chars_rest c.loop-character.character-iterator) (chars_rest c.next.new.self) x inv.utf8 step in
-    let next = drop_head cs n x (chars (chars_rest c.next.new.self)) (inv.rest ∙ head) in
-    let less : n < length cs = next.0 in
-    let most : n ≤ length cs = inv.most in
-    let size : length (take n cs) ≡ n = take_len cs n most in
-    let step' : n + 1 ≡ suc n = omega arith in
-    let typed_now : typed c.args.self.now c.args.node c.args.first a (take (n + 1) cs) ≡ insert (typed c.args.self.now c.args.node c.args.first a (take n cs)) (c.args.node, id_plus c.args.first n) (live_row (anchor_at c.args.first a n) x) =
-    ap (typed c.args.self.now c.args.node c.args.first a) (ap (λ m. take m cs) step' ∙ next.1) ∙ typed_more c.args.node c.args.self.now c.args.first a (take n cs) x
-    ∙ ap (λ m. insert (typed c.args.self.now c.args.node c.args.first a (take n cs)) (c.args.node, id_plus c.args.first m) (live_row (anchor_at c.args.first a m) x)) size in
-    record {
-      utf8 = IsUtf8-past_char (chars_rest c.loop-character.character-iterator) (chars_rest c.next.new.self) x inv.utf8 step;
-      most = omega (arith, less);
-      rest = ap (λ m. drop m cs) step' ∙ next.2;
-      place = (λ i. record { on = c.plus-id.ensures i; side = Right }) ∙ ap (anchor_at c.args.first a) (sym step');
-      now = c.in_ok-add.ensures.ok ∙ (λ i. insert (inv.now i) (c.args.node, c.plus-id.ensures i) (live_row (inv.place i) x)) ∙ sym typed_now;
-    }
+pub type_behind-requires-clause-fresh : goal.type_behind-requires-clause-fresh
+type_behind-requires-clause-fresh c =
+    let u = (goal.at.type_behind-requires-clause-fresh c).In_ok-add in
+    laws.begun_fresh c.args.self.now c.args.node c.args.first (at_of u) (chars c.args.text.now) c.as_slice-letters.result.now c.in-Some.letter.now (begins u) c.add.new.self c.in_ok-add.ensures.ok c.requires.new
+    (laws.more_than_one c.args.self.now c.args.node c.args.first (at_of u) (chars c.args.text.now) c.as_slice-letters.result.now c.in-Some.letter.now (begins u) c.if-letters-eq1.false)
 
-no_length : (xs : List ℕ) → length xs ≡ 0 → xs ≡ []
-no_length [] e = refl
-no_length (x ∷ xs) e = absurd (omega arith)
+pub type_behind-requires-clause-new : goal.type_behind-requires-clause-new
+type_behind-requires-clause-new c =
+    let u = (goal.at.type_behind-requires-clause-new c).In_ok-add in
+    laws.begun_new c.args.self.now c.args.node c.args.first (at_of u) (chars c.args.text.now) c.as_slice-letters.result.now c.in-Some.letter.now (begins u) c.add.new.self c.in_ok-add.ensures.ok c.requires.new _ (rest_is u)
+
+pub type_behind-requires-clause-alive : goal.type_behind-requires-clause-alive
+type_behind-requires-clause-alive c =
+    let u = (goal.at.type_behind-requires-clause-alive c).In_ok-add in
+    subst (λ (ls : List Letter). AreAlive ls) (sym (rest_is u)) (laws.all_alive (begins u).rest)
 
 pub returns-clause-ok : goal.returns-clause-ok
 returns-clause-ok c =
+    let u = (goal.at.returns-clause-ok c).In_ok-add in
+    on_ok_weaker c.type_behind.result
+    (λ e. laws.typed_on c.args.self.now c.args.node c.args.first (at_of u) (chars c.args.text.now) c.as_slice-letters.result.now c.in-Some.letter.now (begins u) c.add.new.self c.type_behind.new.self c.in_ok-add.ensures.ok _ (rest_is u) e) c.type_behind.ensures.ok
+
+pub returns-clause-err : goal.returns-clause-err
+returns-clause-err c =
+    let u = (goal.at.returns-clause-err c).In_ok-add in
+    let b = begins u in
     let cs = chars c.args.text.now in
-    let n = c.loop-character.count in
-    let inv = c.loop-character.invariant in
-    let none : chars_rest c.loop-character.character-iterator ≡ [] = no_length (chars_rest c.loop-character.character-iterator) c.in-None.ensures.steps.0.0 in
-    inv.now ∙ ap (typed c.args.self.now c.args.node c.args.first (record { on = c.args.anchor; side = c.args.side })) (drop_none cs n (inv.rest ∙ ap chars none ∙ chars-nil))
+    let size : length cs ≡ length (b.first ∷ b.rest) = ap length b.characters in
+    on_err_weaker c.type_behind.result
+    (λ e. record {
+      count = 1;
+      some = omega (arith, size);
+      now = e ∙ laws.begun c.args.self.now c.args.node c.args.first (at_of u) cs c.as_slice-letters.result.now c.in-Some.letter.now b c.add.new.self c.in_ok-add.ensures.ok
+          ∙ ap (λ xs. typed c.args.self.now c.args.node c.args.first (at_of u) (take 1 xs)) (sym b.characters);
+    }) c.type_behind.ensures.err
