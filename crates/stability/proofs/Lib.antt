@@ -1,0 +1,4 @@
+pub mod RowLaws
+pub mod HeldLaws
+pub mod StableLaws
+pub mod HorizonLaws
