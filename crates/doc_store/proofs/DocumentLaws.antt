@@ -1,26 +1,24 @@
 -- Operations that come to a document go to their places.
-use Rattle.std.specs.Prelude.{◌≡◌, ℕ, ◌≤◌, List, [], ◌∷◌, None, refl}
-use Rattle.std.proofs.Common.{sym, ◌∙◌, ap, subst}
+use Rattle.std.specs.Prelude.{◌≡◌, ◌≤◌, List, [], ◌∷◌, None, refl}
+use Rattle.std.proofs.Common.{sym, ◌∙◌, ap}
 use Rattle.std.specs.List.{AllByRecursion}
 use Rattle.std.specs.FinMap.{get}
 use Rattle.op_ids.specs.declared.OpId.{OpId}
 use Rattle.model.specs.Held.{wrong_references}
 use Rattle.model.specs.State.{State, Atom, after, apart}
-use Rattle.model_laws.specs.Arrival.{AllArrive, AreBelow, ComeInTurn, Contents, IsFresh, Rises, all_placed, contents, nodes_moved, with_nodes}
-use Rattle.model_laws.specs.Tree.{Places}
+use Rattle.model_laws.specs.Arrival.{AllArrive, ComeInTurn, Rises, all_placed, contents, nodes_moved, with_nodes}
 use Rattle.model_laws.proofs.AllArrivals.{any_order_of_all}
 use Rattle.model_laws.proofs.ArrivalLaws.{good_along}
 use Rattle.model_laws.proofs.ListLaws.{all_append, all_more}
 use Rattle.model_laws.proofs.Presence.{Any}
 use Rattle.model_laws.proofs.ArrivalLaws.{has_itself}
-use Rattle.arrival_laws.proofs.ReferLaws.{RightAlong, WholeRight, all_single, whole_from, whole_right}
+use Rattle.arrival_laws.proofs.ReferLaws.{RightAlong, all_single, whole_from, whole_right}
 use Rattle.tree_log.specs.Moves.{AllReferBack, IsFresh as IsFreshMove, after_moves, has_place, inserted, places_now}
 use Rattle.tree_log.specs.Steps.{moves_of}
-use Rattle.tree_log.specs.declared.moves.TreeMove.{TreeMove}
 use Rattle.tree_log.proofs.StepLaws.{node_steps_are_moves}
 use Rattle.arrival_laws.proofs.ComeLaws.{come}
 use Rattle.doc_store.specs.Kept.{HavePositions, Kept, state_of}
-use Rattle.doc_store.specs.Documents.{AllMayBeDone, HasNoRow, IsDocument, IsFormed, IsOfTree, IsOwnId, Joins, all_late, parts_of}
+use Rattle.doc_store.specs.Documents.{AllMayBeDone, HasNoRow, IsFormed, IsOwnId, Joins, all_late, parts_of}
 use Rattle.doc_store.proofs.JoinLaws.{may_all_be_done}
 use Rattle.doc_store.proofs.MoveLaws.{all_in_place, moves_fresh, moves_in, moves_of-parts, moves_placed, moves_refer, nodes_new}
 
@@ -38,17 +36,16 @@ pub record Comes (d : Kept) (ops : List Atom) : Type 0 where
   pub refer : wrong_references (state_of d) 0 ops ≡ []
   pub rise : Rises (parts_of ops)
   pub fresh : AllByRecursion (λ a. HasNoRow (state_of d) a.id) (parts_of ops)
-  pub of_tree : AllByRecursion (λ a. IsOfTree a.operation) ops
 
 pub rows_done : (d : Kept) (ops : List Atom) → Comes d ops → AllMayBeDone d.contents ops
 rows_done d ops c =
-    may_all_be_done ops c.formed c.rise c.of_tree (state_of d) d.contents refl (whole_from (state_of d) 0 ops c.refer) (unused (state_of d) (parts_of ops) c.fresh)
+    may_all_be_done ops c.formed c.rise (state_of d) d.contents (record { positions = refl; texts = refl; list_positions = refl; elements = λ k. refl }) (whole_from (state_of d) 0 ops c.refer) c.fresh
 
 pub fresh_moves : (d : Kept) (ops : List Atom) → Comes d ops → HavePositions d.contents.positions d.log.moves → AllByRecursion (λ t. IsFreshMove d.log.moves t.id) (moves_of ops)
 fresh_moves d ops c h = moves_fresh d.contents.positions d.log.moves ops h (unused (state_of d) (parts_of ops) c.fresh)
 
 pub moves_back : (d : Kept) (ops : List Atom) → Comes d ops → AllReferBack (has_place (places_now d.log)) (moves_of ops)
-moves_back d ops c = moves_refer ops c.formed c.of_tree (state_of d) (has_place (places_now d.log)) (λ q h. h) (whole_from (state_of d) 0 ops c.refer)
+moves_back d ops c = moves_refer ops c.formed (state_of d) (has_place (places_now d.log)) (λ q h. h) (whole_from (state_of d) 0 ops c.refer)
 
 pub joins : (d now : Kept) (ops : List Atom) → Comes d ops → now.contents ≡ all_late d.contents (parts_of ops) → now.log.base ≡ d.log.base → now.log.moves ≡ inserted d.log.moves (moves_of ops) → Joins d ops now
 joins d now ops c rows base moves s list is below fresh =

@@ -8,7 +8,7 @@ use Rattle.op_ids.specs.declared.OpId.{OpId}
 use Rattle.op_ids.specs.Order.{id_lt}
 use Rattle.model.specs.Operation.{Operation, new_node, move_node, put_key, type_text, erase_text, add_item, shift_item, set_item, drop_item}
 use Rattle.model.specs.State.{State, Atom, after, is_fixed, step}
-use Rattle.model_laws.specs.Arrival.{AreBelow, IsMadeOf, IsSingle, ReferInTurn, Rises, atom_before, contents, nodes_moved, with_nodes}
+use Rattle.model_laws.specs.Arrival.{AreBelow, IsMadeOf, IsSingle, ReferInTurn, Rises, atom_before, with_nodes}
 use Rattle.model_laws.specs.Tree.{IsTree}
 use Rattle.model_laws.proofs.ArrivalLaws.{GoodAlong, after_done, all_done, below_next, done_one, good_along, good_back, good_front, nodes_done, refer_from}
 use Rattle.model_laws.proofs.ListLaws.{all_back, all_both, all_front, all_more, filter_all, filter_none}
@@ -16,11 +16,11 @@ use Rattle.model_laws.proofs.NodeLaws.{keeps_tree}
 use Rattle.model_laws.proofs.Tables.{bool_cases, is_none}
 use Rattle.arrival_laws.proofs.ChangeArrival.{rises_front}
 use Rattle.arrival_laws.proofs.DocumentLaws.{rises_back}
-use Rattle.tree_log.specs.Moves.{Log, after_moves, has_place, places_now}
+use Rattle.tree_log.specs.Moves.{after_moves, has_place, places_now}
 use Rattle.tree_log.specs.Steps.{move_by, moves_of}
 use Rattle.tree_log.specs.declared.moves.TreeMove.{TreeMove}
 use Rattle.tree_log.proofs.StepLaws.{node_steps_are_moves}
-use Rattle.doc_store.specs.Kept.{Kept, state_of}
+use Rattle.doc_store.specs.Kept.{Kept}
 use Rattle.doc_store.specs.Documents.{IsDocument}
 use Rattle.doc_store.proofs.JoinLaws.{own_not_fixed}
 use Rattle.doc_store.proofs.MoveLaws.{moves_in, nodes_new, not_there}

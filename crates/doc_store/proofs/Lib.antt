@@ -1,4 +1,4 @@
-pub mod TableLaws
+pub mod TypedLaws
 pub mod JoinLaws
 pub mod MoveLaws
 pub mod DocumentLaws

@@ -1,37 +1,37 @@
 -- The moves of operations.
-use Rattle.std.specs.Prelude.{◌≡◌, ◌≢◌, ◌≤◌, Bool, true, false, ◌||◌, cond, Option, Some, None, is_some, ℕ, List, [], ◌∷◌, ◌++◌, filter_map, refl, ◌⊎◌}
+use Rattle.std.specs.Prelude.{◌≡◌, ◌≤◌, Bool, true, false, ◌||◌, cond, Option, Some, None, is_some, ℕ, List, [], ◌∷◌, ◌++◌, refl, ◌⊎◌}
 use Rattle.std.proofs.Common.{sym, ◌∙◌, ap, subst, inl, inr}
 use Rattle.std.proofs.lemmas.List.Elements.{filter_map-append}
 use Rattle.std.specs.List.{AllByRecursion, cons_option}
 use Rattle.std.specs.FinMap.{get, insert}
 use Rattle.op_ids.specs.declared.OpId.{OpId}
-use Rattle.op_ids.specs.Order.{id_eq, id_lt, root_id}
-use Rattle.op_ids.proofs.OrderLaws.{id_eq-exact, id_eq-itself, same_or_apart, lt_itself}
+use Rattle.op_ids.specs.Order.{id_eq, id_lt}
+use Rattle.op_ids.proofs.OrderLaws.{same_or_apart, lt_itself}
 use Rattle.model.specs.Operation.{Anchor, Operation, new_node, move_node, put_key, type_text, erase_text, add_item, shift_item, set_item, drop_item}
-use Rattle.model.specs.State.{State, Atom, Place, is_fixed, is_above, moved, has_node, named, node_step, position_step, apart, characters_apart, right_of, done, step, after}
+use Rattle.model.specs.State.{State, Atom, Place, is_fixed, is_above, moved, has_node, named, apart, characters_apart, right_of, done}
 use Rattle.op_ids.specs.Order.{id_plus}
 use Rattle.model.specs.Change.{placed}
-use Rattle.model_laws.specs.Arrival.{AreBelow, ComeInTurn, Contents, IsMadeOf, atom_before, late, all_placed, nodes_moved, Rises}
+use Rattle.model_laws.specs.Arrival.{AreBelow, ComeInTurn, Contents, IsMadeOf, atom_before, late, all_placed, Rises}
 use Rattle.model_laws.specs.Tree.{IsTree, Places}
 use Rattle.model_laws.proofs.ArrivalLaws.{Good, GoodAlong, all_done, any_order, done_one, step_done}
-use Rattle.model_laws.proofs.ListLaws.{all_append, all_back, all_more}
+use Rattle.model_laws.proofs.ListLaws.{all_append, all_more}
 use Rattle.model_laws.proofs.NodeLaws.{keeps_tree}
 use Rattle.model_laws.proofs.Presence.{AllRight, position_stays, is_new}
 use Rattle.model_laws.proofs.Tables.{bool_cases, both_true, is_none}
 use Rattle.model_laws.proofs.TreeLaws.{or_cases, get-inserted, true_or}
 use Rattle.arrival_laws.proofs.AddLaws.{all_kept}
-use Rattle.arrival_laws.proofs.DocumentLaws.{rises_back}
 use Rattle.arrival_laws.proofs.ReferLaws.{WholeRight}
 use Rattle.tree_log.specs.declared.moves.TreeMove.{TreeMove}
-use Rattle.tree_log.specs.Log.{AreMovesIn, IsMoveIn}
+use Rattle.tree_log.specs.Log.{AreMovesIn}
 use Rattle.tree_log.specs.Moves as moves
 use Rattle.tree_log.specs.Moves.{AllReferBack, RefersBack, has_place, inserted, move_before, with_child}
 use Rattle.tree_log.specs.Steps.{AreNew, IsNewIn, move_by, moves_of}
 use Rattle.tree_log.proofs.StepLaws.{moves_arrive}
-use Rattle.doc_store.specs.Positions.{Table}
+use Rattle.fugue_tree.specs.Trees.{Table}
 use Rattle.doc_store.specs.Kept.{HavePositions}
-use Rattle.doc_store.specs.Documents.{IsFormed, IsOfTree, all_late, parts_of}
+use Rattle.doc_store.specs.Documents.{IsFormed, all_late, parts_of}
 use Rattle.doc_store.proofs.JoinLaws.{other_not_fixed, own_not_fixed}
+use Rattle.doc_store.proofs.TypedLaws.{done_typed}
 
 -- ---- the same of the parts
 
@@ -127,13 +127,13 @@ refers nodes parent id (inr e) l = inr (e, l)
 abbrev NextRefers : List Atom → Type 0
 NextRefers ops = (u : State) (nodes : OpId → Bool) → AreThere u.nodes nodes → WholeRight u ops → AllReferBack nodes (moves_of ops)
 
-refer_kind : (u : State) (nodes : OpId → Bool) (ops : List Atom) → NextRefers ops → AreThere u.nodes nodes → (id : OpId) (o : Operation) → IsFormed (record { id = id; operation = o }) → AllRight (named u o) id → IsOfTree o → WholeRight (all_done u (apart id o)) ops
+refer_kind : (u : State) (nodes : OpId → Bool) (ops : List Atom) → NextRefers ops → AreThere u.nodes nodes → (id : OpId) (o : Operation) → IsFormed (record { id = id; operation = o }) → AllRight (named u o) id → WholeRight (all_done u (apart id o)) ops
     → AllReferBack nodes (cons_option (move_by id o) (moves_of ops))
-refer_kind u nodes ops next k id (new_node parent at) g h w more = (
+refer_kind u nodes ops next k id (new_node parent at) g h more = (
   record { parent = refers nodes parent id (fixed_or_there u nodes parent k (both_true _ _ h.there).0) h.smaller.0; child = inl refl; below = own_not_fixed id g.ids.0.some },
   next (done id (new_node parent at) u) (with_child nodes id) (more_there u.nodes nodes id (record { parent = parent; position = id }) k) more,
 )
-refer_kind u nodes ops next k id (move_node child parent at) g h w more =
+refer_kind u nodes ops next k id (move_node child parent at) g h more =
     let there = both_true _ _ h.there in (
       record {
         parent = refers nodes parent id (fixed_or_there u nodes parent k (both_true _ _ there.1).0) h.smaller.1.0;
@@ -142,17 +142,18 @@ refer_kind u nodes ops next k id (move_node child parent at) g h w more =
       },
       next (done id (move_node child parent at) u) (with_child nodes child) (moved_there u.nodes nodes child (record { parent = parent; position = id }) k) more,
     )
-refer_kind u nodes ops next k id (put_key node key value) g h w more = next (done id (put_key node key value) u) nodes k more
-refer_kind u nodes ops next k id (type_text node at characters) g h w more = absurd w
-refer_kind u nodes ops next k id (erase_text node first count) g h w more = absurd w
-refer_kind u nodes ops next k id (add_item node at value) g h w more = absurd w
-refer_kind u nodes ops next k id (shift_item node element at) g h w more = absurd w
-refer_kind u nodes ops next k id (set_item node element value) g h w more = absurd w
-refer_kind u nodes ops next k id (drop_item node element) g h w more = absurd w
+refer_kind u nodes ops next k id (put_key node key value) g h more = next (done id (put_key node key value) u) nodes k more
+refer_kind u nodes ops next k id (type_text node at characters) g h more =
+    next (all_done u (characters_apart node id at characters)) nodes (subst (λ (v : State). AreThere v.nodes nodes) (sym (done_typed u node id at characters)) k) more
+refer_kind u nodes ops next k id (erase_text node first count) g h more = next (done id (erase_text node first count) u) nodes k more
+refer_kind u nodes ops next k id (add_item node at value) g h more = next (done id (add_item node at value) u) nodes k more
+refer_kind u nodes ops next k id (shift_item node element at) g h more = next (done id (shift_item node element at) u) nodes k more
+refer_kind u nodes ops next k id (set_item node element value) g h more = next (done id (set_item node element value) u) nodes k more
+refer_kind u nodes ops next k id (drop_item node element) g h more = next (done id (drop_item node element) u) nodes k more
 
-pub moves_refer : (ops : List Atom) → AllByRecursion IsFormed ops → AllByRecursion (λ a. IsOfTree a.operation) ops → NextRefers ops
-moves_refer [] f t u nodes k r = tt
-moves_refer (a ∷ ops) f t u nodes k r = refer_kind u nodes ops (moves_refer ops f.1 t.1) k a.id a.operation f.0 r.0 t.0 r.1
+pub moves_refer : (ops : List Atom) → AllByRecursion IsFormed ops → NextRefers ops
+moves_refer [] f u nodes k r = tt
+moves_refer (a ∷ ops) f u nodes k r = refer_kind u nodes ops (moves_refer ops f.1) k a.id a.operation f.0 r.0 r.1
 
 -- ---- operations of a document
 

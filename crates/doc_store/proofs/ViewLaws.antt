@@ -1,5 +1,5 @@
 -- How a view is made.
-use Rattle.std.specs.Prelude.{◌≡◌, ℕ, zero, suc, ◌+◌, ◌-◌, ◌<◌, ◌≤◌, Bool, true, false, cond, ◌&&◌, Option, Some, None, List, [], ◌∷◌, ◌++◌, map, filter, filter_map, flat_map, find, reverse, length, take, drop, refl}
+use Rattle.std.specs.Prelude.{◌≡◌, ℕ, suc, ◌+◌, ◌-◌, ◌<◌, ◌≤◌, Bool, true, false, cond, ◌&&◌, Option, Some, None, List, [], ◌∷◌, ◌++◌, map, filter_map, flat_map, find, reverse, length, take, drop, refl}
 use Rattle.std.proofs.Common.{sym, ◌∙◌, ap, subst, arith, get_or}
 use Rattle.std.proofs.lemmas.List.{append_assoc, append-nil, length-map, reverse-append, map-append, drop_more, take_more}
 use Rattle.std.proofs.lemmas.List.Elements.{filter_map-append}
@@ -7,15 +7,13 @@ use Rattle.std.specs.Option.{option_map}
 use Rattle.std.specs.List.{cons_option}
 use Rattle.std.specs.Ordering.{eq_by_cmp}
 use Rattle.std.specs.BTreeMap as maps
-use Rattle.std.specs.FinMap.{FinMap, empty, entries, get, len, len-empty, len-entries}
+use Rattle.std.specs.FinMap.{FinMap, entries, len, len-entries}
 use Rattle.op_ids.specs.declared.OpId.{OpId}
 use Rattle.op_ids.specs.Order.{id_cmp, id_eq, root_id}
 use Rattle.op_ids.proofs.OrderLaws.{eq_by_cmp-id}
 use Rattle.model.specs.State.{State, Place, RowKey, row_cmp, Register, Written}
-use Rattle.std.specs.declared.cmp.Ordering.{Ordering}
-use Rattle.model.specs.Operation.{Anchor}
-use Rattle.model.specs.Walk.{owned, rows_of, walk}
-use Rattle.model.specs.View.{character_at, element_at, element_value, elements_of, is_live, text_of, Entry, ViewNode, Outline, child_at, children, entry_of, is_at, listed, outline, shown, view, view_node}
+use Rattle.model.specs.Walk.{walk}
+use Rattle.model.specs.View.{Entry, ViewNode, child_at, children, entry_of, is_at, listed, outline, shown, view, view_node}
 use Rattle.op_grammar.specs.Values.{own_value_of}
 use Rattle.op_grammar.specs.declared.value.OwnValue.{OwnValue}
 use Rattle.op_grammar.specs.declared.value.OwnValue.TheVariants as own
@@ -27,8 +25,7 @@ use Rattle.doc_store.specs.Keys.{entry_seen, kept_key, kept_value}
 use Rattle.doc_store.specs.Views.{Finds, child_found, pending_at, still_to_show}
 use Rattle.doc_store.specs.declared.children.ChildIndex.{ChildIndex}
 use Rattle.doc_store.specs.declared.children.Pending.{Pending}
-use Rattle.doc_store.specs.declared.keys.KeyValue.{KeyValue}
-use Rattle.doc_store.proofs.TableLaws.{same_row}
+use Rattle.effect_laws.proofs.RowsOf.{row_eq-both}
 
 -- ---- the index
 
@@ -40,7 +37,7 @@ pub finds_more : (index new : ChildIndex) (row : NodeRow) (nodes : List (OpId ×
     → ((q : RowKey) → maps.get row_cmp new.children q ≡ cond (eq_by_cmp row_cmp (row.parent, row.position) q) (Some row.id) (maps.get row_cmp index.children q)) → Finds index nodes → Finds new (rows.entry_of row ∷ nodes)
 finds_more index new row nodes u f parent position =
     u (parent, position)
-    ∙ ap (λ b. cond b (Some row.id) (child_found index parent position)) (same_row row.parent parent row.position position ∙ (λ i. eq_by_cmp-id row.parent parent i && eq_by_cmp-id row.position position i))
+    ∙ ap (λ b. cond b (Some row.id) (child_found index parent position)) (row_eq-both row.parent row.position parent position ∙ (λ i. eq_by_cmp-id row.parent parent i && eq_by_cmp-id row.position position i))
     ∙ ap (cond (is_at parent position (rows.entry_of row)) (Some row.id)) (f parent position) ∙ first_of (is_at parent position (rows.entry_of row)) (rows.entry_of row) (find (is_at parent position) nodes)
 
 pub finds_none : (index : ChildIndex) (nodes : List (OpId × Place)) → ((q : RowKey) → maps.get row_cmp index.children q ≡ None) → nodes ≡ [] → Finds index nodes
@@ -167,21 +164,3 @@ rows_len m given e = ap length e ∙ length-map (entries m) rows.row_of ∙ sym 
 
 pub index_of : (index : ChildIndex) (s : State) (given given' : List NodeRow) (m : FinMap id_cmp Place) → Finds index (map rows.entry_of given') → given' ≡ given → given ≡ map rows.row_of (entries m) → m ≡ s.nodes → Finds index (entries s.nodes)
 index_of index s given given' m f e h k = subst (Finds index) (ap (map rows.entry_of) (e ∙ h) ∙ entries_again (entries m) ∙ ap entries k) f
-
--- ---- tables that are empty
-
-no_entries : {K X : Type 0} (R : K → K → Ordering) → entries (empty {X = X} {R = R}) ≡ []
-no_entries {X} R = nil_of _ (sym (len-entries (empty {X = X} {R = R})) ∙ len-empty R X)
-  where
-    nil_of : {A : Type 0} (xs : List A) → length xs ≡ 0 → xs ≡ []
-    nil_of [] e = refl
-    nil_of (x ∷ xs) e = absurd (omega arith)
-
-no_rows : {X : Type 0} (at : X → Anchor) (table : FinMap row_cmp X) (owner : OpId) → table ≡ empty → rows_of at table owner ≡ []
-no_rows at table owner e = ap (λ t. rows_of at t owner) e ∙ ap (λ es. map (λ r. (r.0, at r.1)) (filter_map (owned owner) es)) (no_entries row_cmp)
-
-pub no_text : (s : State) (node : OpId) → s.texts ≡ empty → text_of s node ≡ []
-no_text s node e = ap (λ r. filter_map (character_at s node) (filter (λ id. is_live (get s.texts (node, id))) (walk r))) (no_rows (λ c. c.at) s.texts node e)
-
-pub no_elements : (s : State) (node : OpId) → s.list_positions ≡ empty → elements_of s node ≡ []
-no_elements s node e = ap (λ r. filter_map (element_value s node) (filter_map (element_at s node) (walk r))) (no_rows (λ at. at) s.list_positions node e)

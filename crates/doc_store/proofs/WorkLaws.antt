@@ -1,20 +1,20 @@
 -- Operations that are taken one by one.
-use Rattle.std.specs.Prelude.{◌≡◌, ℕ, suc, ◌+◌, ◌-◌, ◌≤◌, ◌^◌, min, max, not, ◌&&◌, Bool, true, false, cond, Option, Some, None, List, [], ◌∷◌, ◌++◌, map, filter, length, drop, slice_get, refl}
-use Rattle.std.proofs.Common.{sym, ◌∙◌, ap, subst, arith, get_or}
-use Rattle.std.proofs.lemmas.List.{append_assoc, append-nil, drop_more}
+use Rattle.std.specs.Prelude.{◌≡◌, ℕ, suc, ◌+◌, ◌-◌, ◌≤◌, ◌^◌, min, Option, Some, None, List, [], ◌∷◌, ◌++◌, map, length, slice_get, refl}
+use Rattle.std.proofs.Common.{sym, ◌∙◌, ap, subst, arith}
+use Rattle.std.proofs.lemmas.List.{append_assoc, append-nil}
 use Rattle.std.specs.List.{AllByRecursion, cons_option}
 use Rattle.op_ids.specs.declared.OpId.{OpId}
-use Rattle.op_ids.specs.Order.{id_lt, root_id}
 use Rattle.outside.specs.Faults.{raised}
 use Rattle.outside.specs.Work.{Work}
 use Rattle.model.specs.Held.{refers_wrongly, wrong_ids, wrong_references}
 use Rattle.model.specs.State.{State, Atom, apart, after}
 use Rattle.model_laws.specs.Arrival.{Contents, late}
-use Rattle.model_laws.proofs.ListLaws.{nil_from_append}
 use Rattle.tree_log.specs.declared.moves.TreeMove.{TreeMove}
 use Rattle.tree_log.specs.Steps.{move_by, moves_of}
-use Rattle.doc_store.specs.Documents.{AllMayBeDone, IsOfTree, all_late, decoded_by, parts_of}
-use Rattle.doc_store.specs.References.{HasMade, MakesRows}
+use Rattle.op_grammar.specs.Operations.{operation_of}
+use Rattle.op_grammar.specs.declared.operation.OpRef.{OpRef}
+use Rattle.doc_store.specs.Documents.{AllMayBeDone, IsFormed, all_late, decoded_by, parts_of}
+use Rattle.doc_store.specs.References.{AddsLast, HasMade}
 use Rattle.doc_store.specs.declared.made.Made.{Made}
 
 -- ---- counts
@@ -71,14 +71,14 @@ one_pushed made o t e = ap (λ x. made ++ cons_option x []) (sym e)
 
 -- ---- references
 
--- Some operations were read, and none refers wrongly.
-pub record Reading (s : State) (all : List Atom) (before : Work) (made : Made) (place : ℕ) (work : Work) (left : List Atom) : Type 0 where
+-- Some operations were read, and none refers wrongly. This is known of the state after them.
+pub record Reading (s : State) (all : List Atom) (before : Work) (Known : State → Type 0) (place : ℕ) (work : Work) (left : List Atom) : Type 0 where
   pub at : ℕ
   pub now : State
-  pub has : HasMade s made now
+  pub has : Known now
   pub rest : wrong_references s 0 all ≡ wrong_references now at left
   pub counted : place ≡ min at (2 ^ 32 - 1)
-  pub of_tree : AllByRecursion (λ a. IsOfTree a.operation) left
+  pub formed : AllByRecursion IsFormed left
   pub same : work.moves ≡ before.moves
   pub rose : before.decoded ≤ work.decoded
   pub bound : work.decoded + length left ≤ before.decoded + length all
@@ -91,26 +91,37 @@ first_more : (place : ℕ) (ids : List OpId) (id : OpId) (more : List _) → sli
 first_more place [] id more e = cc
 first_more place (i ∷ ids) id more e = (let same : i ≡ id = cc in ap (λ x. Some (refers_wrongly place x)) same)
 
-pub reading_next : (s : State) (all : List Atom) (before : Work) (made : Made) (place : ℕ) (work : Work) (a : Atom) (left : List Atom) (next : Made) (next_place : ℕ) → (r : Reading s all before made place work (a ∷ left))
-    → slice_get (wrong_ids r.now a.id a.operation) 0 ≡ None → MakesRows made a.id a.operation next → next_place ≡ min (place + 1) (2 ^ 32 - 1) → Reading s all before next next_place (record work { decoded = raised work.decoded }) left
-reading_next s all before made place work a left next next_place r none makes count =
+-- what is made is in the set with what the operation that came last makes
+abbrev pub OnceAdded : State → Made → Option (OpId × OpRef) → State → Type 0
+OnceAdded s made last u = (m : Made) → AddsLast made last m → HasMade s m u
+
+pub reading_added : (s : State) (all : List Atom) (before : Work) (made : Made) (last : Option (OpId × OpRef)) (place : ℕ) (work : Work) (left : List Atom) (now : Made) → AddsLast made last now
+    → Reading s all before (OnceAdded s made last) place work left → Reading s all before (HasMade s now) place work left
+reading_added s all before made last place work left now adds r =
+    record { at = r.at; now = r.now; has = r.has now adds; rest = r.rest; counted = r.counted; formed = r.formed; same = r.same; rose = r.rose; bound = r.bound }
+
+pub reading_next : (s : State) (all : List Atom) (before : Work) (made : Made) (place : ℕ) (work : Work) (id : OpId) (op : OpRef) (left : List Atom) (next_place : ℕ)
+    → (r : Reading s all before (HasMade s made) place work (record { id = id; operation = operation_of op } ∷ left))
+    → slice_get (wrong_ids r.now id (operation_of op)) 0 ≡ None → next_place ≡ min (place + 1) (2 ^ 32 - 1) → Reading s all before (OnceAdded s made (Some (id, op))) next_place (record work { decoded = raised work.decoded }) left
+reading_next s all before made place work id op left next_place r none count =
     let up = raised_up work.decoded in
     let most = raised_most work.decoded in
-    let right = nil_from_first (wrong_ids r.now a.id a.operation) none in
+    let o = operation_of op in
+    let right = nil_from_first (wrong_ids r.now id o) none in
     let was = r.counted in
     record {
       at = suc r.at;
-      now = after r.now (apart a.id a.operation);
-      has = makes s r.now r.has right;
-      rest = r.rest ∙ ap (λ ids. map (refers_wrongly r.at) ids ++ wrong_references (after r.now (apart a.id a.operation)) (suc r.at) left) right;
+      now = after r.now (apart id o);
+      has = λ m makes. makes s r.now r.has right;
+      rest = r.rest ∙ ap (λ ids. map (refers_wrongly r.at) ids ++ wrong_references (after r.now (apart id o)) (suc r.at) left) right;
       counted = omega (arith, count, was);
-      of_tree = r.of_tree.1;
+      formed = r.formed.1;
       same = r.same;
       rose = omega (arith, up, r.rose);
       bound = omega (arith, most, r.bound);
     }
 
-pub reading_wrong : (s : State) (all : List Atom) (before : Work) (made : Made) (place : ℕ) (work : Work) (a : Atom) (left : List Atom) (id : OpId) → (r : Reading s all before made place work (a ∷ left))
+pub reading_wrong : (s : State) (all : List Atom) (before : Work) (made : Made) (place : ℕ) (work : Work) (a : Atom) (left : List Atom) (id : OpId) → (r : Reading s all before (HasMade s made) place work (a ∷ left))
     → slice_get (wrong_ids r.now a.id a.operation) 0 ≡ Some id → slice_get (wrong_references s 0 all) 0 ≡ Some (refers_wrongly r.at id)
 reading_wrong s all before made place work a left id r e =
     ap (λ ms. slice_get ms 0) r.rest ∙ first_more r.at (wrong_ids r.now a.id a.operation) id (wrong_references (after r.now (apart a.id a.operation)) (suc r.at) left) e

@@ -1,16 +1,15 @@
 -- A document: a state and the operations since, by rising ids, whatever the order in which they came.
-use Rattle.std.specs.Prelude.{◌≡◌, ℕ, ◌+◌, ◌*◌, ◌<◌, ◌≤◌, ◌^◌, None, List, [], ◌∷◌, length, filter, nat_le, nat_lt, flat_map, fold, Result, OnOk}
+use Rattle.std.specs.Prelude.{◌≡◌, ℕ, ◌+◌, ◌<◌, ◌≤◌, ◌^◌, None, List, [], ◌∷◌, length, filter, nat_le, nat_lt, flat_map, fold, Result, OnOk}
 use Rattle.std.specs.List.{AllByRecursion}
 use Rattle.std.specs.FinMap.{get}
 use Rattle.op_ids.specs.declared.OpId.{OpId}
 use Rattle.outside.specs.Faults.{raised}
 use Rattle.outside.specs.Work.{Work}
-use Rattle.model.specs.Operation.{Operation, IsOperation, new_node, move_node, put_key}
+use Rattle.model.specs.Operation.{IsOperation}
 use Rattle.model.specs.State.{State, Atom, after, apart}
 use Rattle.model_laws.specs.Arrival.{AreBelow, Contents, IsFresh, IsMadeOf, all_placed, late}
 use Rattle.model_laws.specs.Tree.{IsTree}
-use Rattle.tree_log.specs.Steps.{moves_of, move_by}
-use Rattle.tree_log.specs.Moves.{Log, later_count}
+use Rattle.tree_log.specs.Steps.{moves_of}
 use Rattle.doc_store.specs.Kept.{Kept, state_of, MayBeDone}
 
 -- It is the state before the operations and these since: its tables are those after them, and its log has their moves. The state's
@@ -48,13 +47,6 @@ pub record HasNoRow (s : State) (id : OpId) : Type 0 where
   pub texts : (owner : OpId) → get s.texts (owner, id) ≡ None
   pub list_positions : (owner : OpId) → get s.list_positions (owner, id) ≡ None
   pub elements : (owner : OpId) → get s.elements (owner, id) ≡ None
-
--- a node that is made or moved, or a key
-abbrev pub IsOfTree : Operation → Type 0
-IsOfTree (new_node parent at) = Unit {0}
-IsOfTree (move_node child parent at) = Unit {0}
-IsOfTree (put_key node key value) = Unit {0}
-IsOfTree _ = ⊥
 
 -- Operations come to a document, and each goes to its place.
 abbrev pub Joins : Kept → List Atom → Kept → Type 0

@@ -1,12 +1,12 @@
 -- Edits and their faults, as the code has them, and what a plan answers.
-use Rattle.std.specs.Prelude.{◌≡◌, ℕ, Option, Some, None, List, [], ◌∷◌, Result, Ok, Err, slice_get}
+use Rattle.std.specs.Prelude.{◌≡◌, ◌==◌, nat_lt, ℕ, Some, None, List, [], ◌∷◌, ◌++◌, Result, Ok, Err, slice_get}
 use Rattle.std.specs.Str.{chars}
 use Rattle.op_ids.specs.declared.OpId.{OpId}
 use Rattle.op_ids.specs.declared.Side.{Side}
 use Rattle.model.specs.Operation.{Anchor}
 use Rattle.model.specs.State.{State}
 use Rattle.model.specs.Edit as model
-use Rattle.model.specs.Edit.{WrongEdit, edit_fault, faults, plan}
+use Rattle.model.specs.Edit.{WrongEdit, edit_fault, faults, faulty, is_empty, plan, too_long}
 use Rattle.op_grammar.specs.Operations.{anchor_of, operation_of, operations_of}
 use Rattle.op_grammar.specs.Values.{value_of}
 use Rattle.op_grammar.specs.declared.operation.OpRef.{OpRef}
@@ -39,15 +39,6 @@ fault_of NoChars = model.no_characters
 fault_of Empty = model.is_empty
 fault_of TooLong = model.too_long
 
--- a node that is made, moved or trashed, or a key
-abbrev pub IsTreeEdit : model.Edit → Type 0
-IsTreeEdit (model.new_child parent at) = Unit {0}
-IsTreeEdit (model.move_child child parent at) = Unit {0}
-IsTreeEdit (model.trash_child child) = Unit {0}
-IsTreeEdit (model.put_value node key value) = Unit {0}
-IsTreeEdit (model.unset_key node key) = Unit {0}
-IsTreeEdit _ = ⊥
-
 -- The fault is the first of these. Memory may run out whatever they are.
 abbrev pub Fails : List WrongEdit → PlanFault → Type 0
 Fails wrong (reasons.Edit fault word) = slice_get wrong 0 ≡ Some (record { fault = fault_of fault; word = word })
@@ -69,6 +60,15 @@ Checks wrong (Err f) = Fails wrong f
 abbrev pub Places : List WrongEdit → Anchor → Result (OpId × Side) PlanFault → Type 0
 Places wrong at (Ok p) = (wrong ≡ []) × (anchor_of p ≡ at)
 Places wrong at (Err f) = Fails wrong f
+
+-- What is sought, if there are none of these faults, or the first.
+abbrev pub Finds : {T : Type 0} → List WrongEdit → T → Result T PlanFault → Type 0
+Finds wrong x (Ok y) = (wrong ≡ []) × (y ≡ x)
+Finds wrong x (Err f) = Fails wrong f
+
+-- what is wrong with so many characters
+abbrev pub wrong_count : ℕ → List WrongEdit
+wrong_count count = faulty (count == 0) is_empty 4 ++ faulty (nat_lt 4096 count) too_long 4
 
 -- The one operation of an edit without faults, or its first fault.
 abbrev pub PlansOne : State → model.Edit → Result OpRef PlanFault → Type 0

@@ -1,4 +1,3 @@
-pub mod Positions
 pub mod Kept
 pub mod Documents
 pub mod References

@@ -1,29 +1,31 @@
 // The document.
-ghost use Rattle.std.specs.Prelude.{◌≡◌, ◌≤◌, ◌+◌, ◌*◌, ◌||◌, [], length, map, is_some, OnOk, IfOk, slice_get};
+ghost use Rattle.std.specs.Prelude.{◌≡◌, ◌≤◌, ◌+◌, ◌*◌, [], length, map, IfOk};
 ghost use Rattle.std.specs.FinMap as fin;
 ghost use Rattle.std.specs.List.{AllByRecursion};
-ghost use Rattle.op_grammar.specs.Operations.{operation_of};
-ghost use Rattle.model.specs.Held.{wrong_ids, wrong_references};
-ghost use Rattle.model.specs.State.{State, empty_state, has_anchor, has_node};
+ghost use Rattle.model.specs.Held.{wrong_references};
+ghost use Rattle.model.specs.State.{empty_state};
 ghost use Rattle.model.specs.View.{view};
 ghost use Rattle.model_laws.specs.Arrival.{Rises};
 ghost use Rattle.tree_log.specs.Moves.{later_count};
 ghost use Rattle.tree_log.specs.Steps.{moves_of};
 ghost use Rattle.tree_move.specs.Parents.{row_of as node_row};
 ghost use Rattle.lww_map.specs.Keys.{rows_seen};
-ghost use Rattle.doc_store.specs.Documents.{DecodesAll, DecodesSome, Forgets, HasNoRow, IsDocument, IsFormed, IsOfTree, Joins, parts_of};
+ghost use Rattle.fugue_text.specs.Texts.{text_entries};
+ghost use Rattle.move_list.specs.Lists.{element_entries, place_entries};
+ghost use Rattle.doc_store.specs.Documents.{DecodesAll, DecodesSome, Forgets, HasNoRow, IsDocument, IsFormed, Joins, parts_of};
 ghost use Rattle.doc_store.specs.Kept.{state_of};
-ghost use Rattle.doc_store.specs.Positions.{place_row};
-ghost use Rattle.doc_store.specs.References.{HasMade, IsFirstWrong};
+ghost use Rattle.fugue_tree.specs.Trees.{place_row};
+ghost use Rattle.doc_store.specs.References.{IsFirstWrong};
+ghost use Rattle.doc_store.specs.Views.{Finds};
 
 use crate::children::{ChildIndex, Pending, open_all};
 use crate::kept_rows::KeptRows;
 use crate::made::Made;
-use crate::references::{BadRef, first_wrong};
-use crate::tables::{NodeRows, PlaceRows, RegisterRows, Tables};
+use crate::references::BadRef;
+use crate::tables::{ElementRows, NodeRows, PlaceRows, RegisterRows, Tables, TextRows};
 use crate::view::View;
-use op_grammar::{OpRef, OpSource};
-use op_ids::{OpId, ROOT, TRASH};
+use op_grammar::OpSource;
+use op_ids::ROOT;
 use outside::Tally;
 use std::alloc::{AllocError, Global};
 use std::marker::Model;
@@ -73,22 +75,24 @@ impl Doc {
         ops: S,
         tally: &mut Tally,
     ) -> Result<Option<BadRef>, AllocError>
-        requires formed { AllByRecursion IsFormed (S.left ops) }
-        requires of_tree { AllByRecursion (λ a. IsOfTree a.operation) (S.left ops) }
+        requires { AllByRecursion IsFormed (S.left ops) }
         ensures first { IfOk result (IsFirstWrong (state_of self.now) (S.left ops)) }
         ensures tally { DecodesSome tally.old tally.new (length (S.left ops)) }
     {
         let mut ops = ops;
         let mut made = Made::new(self.alloc);
+        let mut last = None;
         let mut place = 0u32;
         while let Some((id, op)) = ops.next_op(tally) {
+            // No operation asks for what the very last one makes.
+            made.add_last(last)?;
             if let Some(wrong) = self.wrong_id(&made, id, op) {
                 return Ok(Some(BadRef {
                     op: place,
                     id: wrong,
                 }));
             }
-            made.add(id, op)?;
+            last = Some((id, op));
             place = place.saturating_add(1);
         }
         Ok(None)
@@ -108,7 +112,6 @@ impl Doc {
         requires refer { wrong_references (state_of self) 0 (S.left ops) ≡ [] }
         requires rise { Rises (parts_of (S.left ops)) }
         requires fresh { AllByRecursion (λ a. HasNoRow (state_of self) a.id) (parts_of (S.left ops)) }
-        requires of_tree { AllByRecursion (λ a. IsOfTree a.operation) (S.left ops) }
         ensures joins { IfOk result (Joins self (S.left ops)) }
         ensures decoded { DecodesAll tally.old tally.new (S.left ops) result }
         ensures moved { tally.new.moves ≤ tally.old.moves
@@ -132,11 +135,20 @@ impl Doc {
             t.positions ≡ map place_row (fin.entries (state_of self.now).positions)) }
         ensures registers { IfOk result (λ t.
             rows_seen t.registers ≡ fin.entries (state_of self.now).registers) }
+        ensures texts { IfOk result (λ t.
+            text_entries t.texts ≡ fin.entries (state_of self.now).texts) }
+        ensures list_positions { IfOk result (λ t.
+            place_entries t.list_positions ≡ fin.entries (state_of self.now).list_positions) }
+        ensures elements { IfOk result (λ t.
+            element_entries t.elements ≡ fin.entries (state_of self.now).elements) }
     {
         Ok(Tables {
             nodes: NodeRows::of(self.log.parents().rows()?),
             positions: PlaceRows::of(self.rows.positions.rows()?),
             registers: RegisterRows::of(self.rows.registers.rows()?),
+            texts: TextRows::of(self.rows.texts.rows()?),
+            list_positions: PlaceRows::of(self.rows.lists.position_rows()?),
+            elements: ElementRows::of(self.rows.lists.element_rows()?),
         })
     }
 
@@ -146,14 +158,13 @@ impl Doc {
     pub fn view(&self) -> Result<View, AllocError>
         ensures { IfOk result (λ v. v ≡ view (state_of self.now)) }
     {
-        let rows = self.log.parents().rows()?;
-        let index = ChildIndex::of(self.alloc, &rows)?;
+        let (index, count) = self.child_index()?;
         let mut nodes = Vec::new(self.alloc);
         let mut stack = Vec::new(self.alloc);
         stack.push(Pending { depth: 0, id: ROOT })?;
         while let Some(next) = stack.pop() {
             nodes.push(self.rows.view_node(next)?)?;
-            if (next.depth as usize) < rows.len() {
+            if (next.depth as usize) < count {
                 let children = self.rows.children(&index, next.id)?;
                 open_all(next.depth, &children, &mut stack)?;
             }
@@ -168,59 +179,13 @@ impl Doc {
         self.log.drop_through(time);
     }
 
-    // Whether it is root, trash, a node or one that was made.
-    fn has_node(&self, made: &Made, id: OpId) -> bool
-        ensures { (u : State) → HasMade (state_of self.now) made.now u
-            → result ≡ has_node u id }
+    // The index of children, and how many nodes there are.
+    pub(crate) fn child_index(&self) -> Result<(ChildIndex, usize), AllocError>
+        ensures finds { IfOk result (λ p. Finds p.0 (fin.entries (state_of self.now).nodes)) }
+        ensures count { IfOk result (λ p. p.1 ≡ fin.len (state_of self.now).nodes) }
     {
-        id == ROOT || id == TRASH || self.is_placed(made, id)
-    }
-
-    // Whether it is a node, or one that was made.
-    fn is_placed(&self, made: &Made, id: OpId) -> bool
-        ensures { (u : State) → HasMade (state_of self.now) made.now u
-            → result ≡ is_some (fin.get u.nodes id) }
-    {
-        self.log.parents().parent_of(id).is_some() || made.nodes.contains(&id)
-    }
-
-    // Whether it is the head, a position of the parent or one that was made.
-    fn has_anchor(&self, made: &Made, parent: OpId, id: OpId) -> bool
-        ensures { (u : State) → HasMade (state_of self.now) made.now u
-            → result ≡ has_anchor u.positions parent id }
-    {
-        id == ROOT || self.rows.positions.has(parent, id) || made.positions.contains(&(parent, id))
-    }
-
-    // The first id that the operation names wrongly.
-    fn wrong_id(&self, made: &Made, id: OpId, op: OpRef<'_>) -> Option<OpId>
-        requires { IsOfTree (operation_of op) }
-        ensures { (u : State) → HasMade (state_of self.now) made.now u
-            → result ≡ slice_get (wrong_ids u id (operation_of op.entry)) 0 }
-    {
-        match op {
-            OpRef::NewNode { parent, anchor, .. } => first_wrong(
-                id,
-                &[
-                    (parent, self.has_node(made, parent)),
-                    (anchor, self.has_anchor(made, parent, anchor)),
-                ],
-            ),
-            OpRef::MoveNode {
-                child,
-                parent,
-                anchor,
-                ..
-            } => first_wrong(
-                id,
-                &[
-                    (child, self.is_placed(made, child)),
-                    (parent, self.has_node(made, parent)),
-                    (anchor, self.has_anchor(made, parent, anchor)),
-                ],
-            ),
-            OpRef::PutKey { node, .. } => first_wrong(id, &[(node, self.has_node(made, node))]),
-            _ => unreachable!(),
-        }
+        let rows = self.log.parents().rows()?;
+        let index = ChildIndex::of(self.alloc, &rows)?;
+        Ok((index, rows.len()))
     }
 }

@@ -1,9 +1,10 @@
 //! Edits, and what is wrong with one.
 
-ghost use Rattle.std.specs.Prelude.{◌≡◌};
+ghost use Rattle.std.specs.Prelude.{◌≡◌, length};
+ghost use Rattle.std.specs.Str.{chars};
 ghost use Rattle.model.specs.Edit.{faulty, wrong_key, wrong_value};
 ghost use Rattle.op_grammar.specs.Values.{value_of};
-ghost use Rattle.doc_store.specs.Edits.{Checks, fault_of};
+ghost use Rattle.doc_store.specs.Edits.{Checks, fault_of, wrong_count};
 ghost use Rattle.doc_store.specs.declared.edit.PlanFault.TheVariants.{NoMemory};
 
 use op_grammar::Value;
@@ -148,6 +149,21 @@ pub fn check_key(key: &str) -> Result<(), PlanFault>
 {
     refuse_if(key.len() == 0, EditFault::Empty, 3)?;
     refuse_if(key.len() > 256, EditFault::TooLong, 3)
+}
+
+// Refuses a count of 0, or of more than 4,096.
+pub fn check_count(count: usize) -> Result<(), PlanFault>
+    ensures { Checks (wrong_count count) result }
+{
+    refuse_if(count == 0, EditFault::Empty, 4)?;
+    refuse_if(count > 4096, EditFault::TooLong, 4)
+}
+
+// Refuses a text without characters, or with more than 4,096.
+pub fn check_text(text: &str) -> Result<(), PlanFault>
+    ensures { Checks (wrong_count (length (chars text.now))) result }
+{
+    check_count(text.chars().count())
 }
 
 // Refuses a text, or bytes, of more than 65,536 bytes.

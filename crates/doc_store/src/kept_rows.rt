@@ -2,21 +2,22 @@
 ghost use Rattle.std.specs.Prelude.{◌≡◌, ◌++◌, [], OnOk, IfOk};
 ghost use Rattle.std.specs.FinMap as fin;
 ghost use Rattle.op_grammar.specs.Operations.{operation_of};
-ghost use Rattle.model.specs.State.{State, Atom, apart};
+ghost use Rattle.model.specs.State.{State, Atom, apart, empty_state};
 ghost use Rattle.model.specs.View.{children, outline, view_node};
 ghost use Rattle.model_laws.specs.Arrival.{contents};
 ghost use Rattle.tree_log.specs.Steps.{move_by, moves_of};
-ghost use Rattle.doc_store.specs.Kept.{MayBeDone, contents_of};
+ghost use Rattle.doc_store.specs.Kept.{MayBeDone};
 ghost use Rattle.doc_store.specs.Shown.{node_seen};
 ghost use Rattle.doc_store.specs.Views.{Finds};
 ghost use Rattle.doc_store.specs.Documents.{AllMayBeDone, DecodesAll, all_late, parts_of};
 
 use crate::children::{ChildIndex, Pending};
-use crate::keys::{keys_of, no_items};
-use crate::positions::Positions;
+use crate::keys::{items_of, keys_of};
 use crate::view::ViewNode;
-use cbor_det::OwnText;
+use fugue_text::Texts;
+use fugue_tree::Trees;
 use lww_map::Registers;
+use move_list::Lists;
 use op_grammar::{OpRef, OpSource};
 use op_ids::OpId;
 use outside::Tally;
@@ -27,8 +28,10 @@ use tree_log::TreeMove;
 #[derive(Drop)]
 pub struct KeptRows {
     alloc: Global,
-    pub positions: Positions,
+    pub positions: Trees,
     pub registers: Registers,
+    pub texts: Texts,
+    pub lists: Lists,
 }
 
 impl Model for KeptRows {
@@ -39,18 +42,20 @@ impl Model for KeptRows {
 
     ghost coded = { contents_code };
 
-    ghost view = { λ k. contents_of k.positions k.registers };
+    ghost view = { λ k. contents_of k.positions k.registers k.texts k.lists };
 }
 
 impl KeptRows {
     // Empty tables.
     pub fn new(alloc: Global) -> KeptRows
-        ensures { result ≡ contents_of fin.empty fin.empty }
+        ensures { result ≡ contents empty_state }
     {
         KeptRows {
             alloc,
-            positions: Positions::new(alloc),
+            positions: Trees::new(alloc),
             registers: Registers::new(alloc),
+            texts: Texts::new(alloc),
+            lists: Lists::new(alloc),
         }
     }
 
@@ -86,8 +91,8 @@ impl KeptRows {
             depth: next.depth,
             id: next.id,
             keys: keys_of(self.alloc, &self.registers, next.id)?,
-            text: OwnText::of(self.alloc, "")?,
-            items: no_items(self.alloc),
+            text: self.texts.text(next.id)?,
+            items: items_of(self.alloc, &self.lists, next.id)?,
         })
     }
 
@@ -96,10 +101,7 @@ impl KeptRows {
         ensures { (s : State) → contents s ≡ self.now → Finds index.now (fin.entries s.nodes)
             → IfOk result (λ v. v.items ≡ children s parent) }
     {
-        let Some(tree) = self.positions.tree(parent) else {
-            return Ok(Vec::new(self.alloc));
-        };
-        let walk = tree.walk()?;
+        let walk = self.positions.walk(parent)?;
         index.at_positions(self.alloc, parent, &walk)
     }
 
@@ -121,7 +123,37 @@ impl KeptRows {
                 ..
             } => self.positions.add(parent, id, anchor, side),
             OpRef::PutKey { node, key, value } => self.registers.write(node, key, id, value),
-            _ => unreachable!(),
+            OpRef::TypeText {
+                node,
+                anchor,
+                side,
+                text,
+            } => self.texts.type_run(node, id, anchor, side, text),
+            OpRef::EraseText { node, first, count } => {
+                self.texts.erase(node, first, count);
+                Ok(())
+            }
+            OpRef::AddItem {
+                node,
+                anchor,
+                side,
+                value,
+            } => self.lists.add(node, id, anchor, side, value),
+            OpRef::ShiftItem {
+                node,
+                element,
+                anchor,
+                side,
+            } => self.lists.shift(node, element, id, anchor, side),
+            OpRef::SetItem {
+                node,
+                element,
+                value,
+            } => self.lists.set(node, element, id, value),
+            OpRef::DropItem { node, element } => {
+                self.lists.drop_item(node, element);
+                Ok(())
+            }
         }
     }
 }

@@ -1,13 +1,15 @@
 //! What a node shows beside its text.
 
-ghost use Rattle.std.specs.Prelude.{◌≡◌, map, filter_map, IfOk, []};
+ghost use Rattle.std.specs.Prelude.{◌≡◌, map, filter_map, IfOk};
 ghost use Rattle.std.specs.FinMap as fin;
 ghost use Rattle.op_grammar.specs.Values.{own_value_of};
-ghost use Rattle.model.specs.View.{entry_of};
+ghost use Rattle.model.specs.View.{elements_of, entry_of};
+ghost use Rattle.move_list.specs.Lists.{document_of};
 ghost use Rattle.doc_store.specs.Keys.{entry_seen, kept_key};
 
 use cbor_det::OwnText;
 use lww_map::{OwnValue, RegisterRow, Registers};
+use move_list::Lists;
 use op_ids::OpId;
 use std::alloc::{AllocError, Global};
 use std::marker::Model;
@@ -102,11 +104,24 @@ pub fn keys_of(alloc: Global, registers: &Registers, node: OpId) -> Result<KeyLi
     Ok(KeyList { keys })
 }
 
-// No elements.
-pub fn no_items(alloc: Global) -> ItemList
-    ensures { result ≡ [] }
+// The value of an element.
+fn value_of(item: (OpId, OwnValue)) -> OwnValue
+    ensures { result ≡ item.1 }
 {
-    ItemList {
-        items: Vec::new(alloc),
-    }
+    item.1
+}
+
+// The values of elements.
+fn values_of(alloc: Global, items: Vec<(OpId, OwnValue)>) -> Result<Vec<OwnValue>, AllocError>
+    ensures { IfOk result (λ v. v.items ≡ map (λ item. item.1) items.items) }
+{
+    items.into_iter().map(value_of).collect(alloc)
+}
+
+// The elements of a node that aren't dropped, in their order.
+pub fn items_of(alloc: Global, lists: &Lists, node: OpId) -> Result<ItemList, AllocError>
+    ensures { IfOk result (λ l. l ≡ elements_of (document_of lists.now) node) }
+{
+    let items = values_of(alloc, lists.elements(node)?)?;
+    Ok(ItemList { items })
 }

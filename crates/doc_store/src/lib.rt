@@ -8,19 +8,24 @@ mod kept_rows;
 mod keys;
 pub mod laws;
 mod made;
+mod naming;
 mod plan;
-mod positions;
+mod plan_list;
+mod plan_text;
+mod plan_tree;
 mod references;
 mod tables;
 mod view;
 
 pub use doc::Doc;
 pub use edit::{Edit, EditFault, PlanFault};
+pub use fugue_text::TextRow;
 pub use fugue_tree::PlaceRow;
 pub use keys::{ItemList, KeyList, KeyValue};
 pub use lww_map::RegisterRow;
+pub use move_list::ElementRow;
 pub use references::BadRef;
-pub use tables::{NodeRows, PlaceRows, RegisterRows, Tables};
+pub use tables::{ElementRows, NodeRows, PlaceRows, RegisterRows, Tables, TextRows};
 pub use tree_move::NodeRow;
 pub use view::{View, ViewNode};
 

@@ -1,6 +1,6 @@
 // References of operations.
-ghost use Rattle.std.specs.Prelude.{◌≡◌, ◌&&◌, not, map, filter, slice_get};
-ghost use Rattle.op_ids.specs.Order.{id_lt};
+ghost use Rattle.std.specs.Prelude.{◌≡◌};
+ghost use Rattle.doc_store.specs.References.{first_wrong_of};
 
 use op_ids::OpId;
 
@@ -13,8 +13,7 @@ pub struct BadRef {
 
 // The first of the ids, each with whether it is there, that isn't there or isn't smaller than the operation's id.
 pub fn first_wrong(id: OpId, names: &[(OpId, bool)]) -> Option<OpId>
-    ensures { result
-        ≡ slice_get (map (λ n. n.0) (filter (λ n. not (n.1 && id_lt n.0 id)) names.now)) 0 }
+    ensures { result ≡ first_wrong_of id names.now }
 {
     for (name, is_there) in names {
         if !(*is_there && name.is_before(id)) {

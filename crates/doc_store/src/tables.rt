@@ -2,8 +2,10 @@
 
 ghost use Rattle.std.specs.Prelude.{◌≡◌};
 
+use fugue_text::TextRow;
 use fugue_tree::PlaceRow;
 use lww_map::RegisterRow;
+use move_list::ElementRow;
 use std::marker::Model;
 use tree_move::NodeRow;
 
@@ -22,7 +24,7 @@ impl Model for NodeRows {
     ghost view = { λ r. r.rows.items };
 }
 
-/// Rows of positions.
+/// Rows of positions, of nodes or of elements.
 #[derive(Drop)]
 pub struct PlaceRows {
     rows: Vec<PlaceRow>,
@@ -48,6 +50,36 @@ impl Model for RegisterRows {
     ghost use Rattle.lww_map.specs.declared.registers.RegisterRow.{RegisterRow};
 
     ghost Value = { List RegisterRow };
+
+    ghost view = { λ r. r.rows.items };
+}
+
+/// Rows of characters.
+#[derive(Drop)]
+pub struct TextRows {
+    rows: Vec<TextRow>,
+}
+
+impl Model for TextRows {
+    ghost use Rattle.std.specs.Prelude.{List};
+    ghost use Rattle.fugue_text.specs.declared.texts.TextRow.{TextRow};
+
+    ghost Value = { List TextRow };
+
+    ghost view = { λ r. r.rows.items };
+}
+
+/// Rows of elements.
+#[derive(Drop)]
+pub struct ElementRows {
+    rows: Vec<ElementRow>,
+}
+
+impl Model for ElementRows {
+    ghost use Rattle.std.specs.Prelude.{List};
+    ghost use Rattle.move_list.specs.declared.lists.ElementRow.{ElementRow};
+
+    ghost Value = { List ElementRow };
 
     ghost view = { λ r. r.rows.items };
 }
@@ -121,10 +153,60 @@ impl RegisterRows {
     }
 }
 
-/// The tables, each by its keys: nodes by id, positions by parent and id, registers by node and key.
+impl TextRows {
+    /// These rows.
+    pub fn of(rows: Vec<TextRow>) -> TextRows
+        ensures { result ≡ rows.items }
+    {
+        TextRows { rows }
+    }
+
+    /// The rows.
+    pub fn as_slice(&self) -> &[TextRow]
+        ensures { result.now ≡ self.now }
+    {
+        self.rows.as_slice()
+    }
+
+    /// The rows, given back.
+    pub fn into_vec(self) -> Vec<TextRow>
+        ensures { result.items ≡ self }
+    {
+        self.rows
+    }
+}
+
+impl ElementRows {
+    /// These rows.
+    pub fn of(rows: Vec<ElementRow>) -> ElementRows
+        ensures { result ≡ rows.items }
+    {
+        ElementRows { rows }
+    }
+
+    /// The rows.
+    pub fn as_slice(&self) -> &[ElementRow]
+        ensures { result.now ≡ self.now }
+    {
+        self.rows.as_slice()
+    }
+
+    /// The rows, given back.
+    pub fn into_vec(self) -> Vec<ElementRow>
+        ensures { result.items ≡ self }
+    {
+        self.rows
+    }
+}
+
+/// The tables, each by its keys: nodes by id, positions by parent and id, registers by node and key, and characters, positions
+/// of lists and elements by node and id.
 #[derive(Drop)]
 pub struct Tables {
     pub nodes: NodeRows,
     pub positions: PlaceRows,
     pub registers: RegisterRows,
+    pub texts: TextRows,
+    pub list_positions: PlaceRows,
+    pub elements: ElementRows,
 }

@@ -1,4 +1,4 @@
-use Rattle.std.proofs.Common.{◌≡◌, not, rules}
+use Rattle.std.proofs.Common.{not, rules}
 use Rattle.std.proofs.lemmas.Fn.{filter_same}
 use Rattle.op_ids.specs.Order.{id_eq}
 use Rattle.doc_store.proofs.plan.others_of.Goals as goal

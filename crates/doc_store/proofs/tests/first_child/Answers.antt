@@ -1,10 +1,9 @@
-use Rattle.std.proofs.Common.{◌≡◌, refl, sym, subst, inl, lit<, lit≤, []}
+use Rattle.std.proofs.Common.{refl, sym, subst, inl, lit<, lit≤, []}
 use Rattle.op_ids.specs.Order.{root_id}
 use Rattle.op_ids.specs.declared.OpId.{OpId}
-use Rattle.op_ids.specs.declared.Side.TheVariants.{Right}
 use Rattle.model.specs.Operation.{new_node}
 use Rattle.model.specs.Value.{IsOpId}
-use Rattle.model.specs.State.{Atom, empty_state, right_of}
+use Rattle.model.specs.State.{empty_state, right_of}
 use Rattle.arrival_laws.proofs.DocumentLaws.{empty_below}
 use Rattle.doc_store.specs.Documents.{HasNoRow, IsFormed}
 use Rattle.doc_store.specs.Kept.{state_of}
@@ -26,4 +25,4 @@ formed = record {
 pub apply-requires : goal.apply-requires
 apply-requires c =
     let unused : HasNoRow (state_of c.new.result) first = subst (λ u. HasNoRow u first) (sym c.new.ensures.state) (fresh_ids_have_no_row empty_state [] first c.new.ensures.made_of (empty_below first) tt) in
-    λ k. ((refl, tt), ((formed, tt), (refl, ((tt, tt), ((unused, tt), (tt, tt))))))
+    λ k. ((refl, tt), ((formed, tt), (refl, ((tt, tt), (unused, tt)))))

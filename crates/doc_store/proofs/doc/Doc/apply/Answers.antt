@@ -1,4 +1,4 @@
-use Rattle.std.proofs.Common.{◌≡◌, ◌∙◌, sym, ap, subst, refl, List}
+use Rattle.std.proofs.Common.{◌∙◌, sym, ap, subst, refl}
 use Rattle.std.specs.List.{AllByRecursion}
 use Rattle.model_laws.specs.Arrival.{Contents}
 use Rattle.tree_log.specs.Steps.{moves_of}
@@ -15,7 +15,7 @@ kept rows log = record { contents = rows; log = log }
 
 pub do_all-requires : goal.do_all-requires
 do_all-requires g c κs =
-    let come : Comes c.args.self (g.S.OpSource.left c.args.ops) = record { formed = c.requires.formed; refer = c.requires.refer; rise = c.requires.rise; fresh = c.requires.fresh; of_tree = c.requires.of_tree } in
+    let come : Comes c.args.self (g.S.OpSource.left c.args.ops) = record { formed = c.requires.formed; refer = c.requires.refer; rise = c.requires.rise; fresh = c.requires.fresh } in
     ((refl, tt), rows_done (kept c.self.inside.rows c.self.inside.log) _ (subst (λ d. Comes d (g.S.OpSource.left c.args.ops)) (sym c.self.view_is) come))
 
 pub insert-requires-clause-rises : goal.insert-requires-clause-rises
@@ -23,13 +23,13 @@ insert-requires-clause-rises g c = subst Rises (sym (c.deref.ensures.value ∙ c
 
 pub insert-requires-clause-fresh : goal.insert-requires-clause-fresh
 insert-requires-clause-fresh g c =
-    let come : Comes c.args.self (g.S.OpSource.left c.args.ops) = record { formed = c.requires.formed; refer = c.requires.refer; rise = c.requires.rise; fresh = c.requires.fresh; of_tree = c.requires.of_tree } in
+    let come : Comes c.args.self (g.S.OpSource.left c.args.ops) = record { formed = c.requires.formed; refer = c.requires.refer; rise = c.requires.rise; fresh = c.requires.fresh } in
     subst (AllByRecursion (λ (x : TreeMove). IsFresh c.self.inside.log.moves x.id)) (sym (c.deref.ensures.value ∙ c.in_ok-moves.ensures.moves))
     (fresh_moves (kept c.self.inside.rows c.self.inside.log) _ (subst (λ d. Comes d (g.S.OpSource.left c.args.ops)) (sym c.self.view_is) come) c.self.invariant)
 
 pub insert-requires-clause-refer : goal.insert-requires-clause-refer
 insert-requires-clause-refer g c =
-    let come : Comes c.args.self (g.S.OpSource.left c.args.ops) = record { formed = c.requires.formed; refer = c.requires.refer; rise = c.requires.rise; fresh = c.requires.fresh; of_tree = c.requires.of_tree } in
+    let come : Comes c.args.self (g.S.OpSource.left c.args.ops) = record { formed = c.requires.formed; refer = c.requires.refer; rise = c.requires.rise; fresh = c.requires.fresh } in
     subst (AllReferBack (has_place (places_now c.self.inside.log))) (sym (c.deref.ensures.value ∙ c.in_ok-moves.ensures.moves))
     (moves_back (kept c.self.inside.rows c.self.inside.log) _ (subst (λ d. Comes d (g.S.OpSource.left c.args.ops)) (sym c.self.view_is) come))
 
@@ -44,7 +44,7 @@ invariant_of-result g c =
 pub returns-clause-joins : goal.returns-clause-joins
 returns-clause-joins g c =
     let ops = g.S.OpSource.left c.args.ops in
-    let come : Comes c.args.self ops = record { formed = c.requires.formed; refer = c.requires.refer; rise = c.requires.rise; fresh = c.requires.fresh; of_tree = c.requires.of_tree } in
+    let come : Comes c.args.self ops = record { formed = c.requires.formed; refer = c.requires.refer; rise = c.requires.rise; fresh = c.requires.fresh } in
     let held = c.in_ok-insert.ensures.ok ∙ ap (inserted c.self.inside.log.moves) (c.deref.ensures.value ∙ c.in_ok-moves.ensures.moves) in
     subst (λ d. Joins d ops (kept c.do_all.new.self c.insert.new.self)) c.self.view_is
     (joins (kept c.self.inside.rows c.self.inside.log) (kept c.do_all.new.self c.insert.new.self) ops (subst (λ d. Comes d ops) (sym c.self.view_is) come) c.in_ok-moves.ensures.rows c.in_ok-insert.ensures.base held)

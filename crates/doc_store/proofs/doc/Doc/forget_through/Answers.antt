@@ -1,4 +1,4 @@
-use Rattle.std.proofs.Common.{◌≡◌, ap, sym, subst, refl, true, is_some, filter, nat_lt}
+use Rattle.std.proofs.Common.{◌≡◌, sym, subst, refl, true, is_some, nat_lt}
 use Rattle.std.specs.FinMap.{get}
 use Rattle.arrival_laws.proofs.AddLaws.{all_kept}
 use Rattle.tree_log.specs.declared.moves.TreeMove.{TreeMove}

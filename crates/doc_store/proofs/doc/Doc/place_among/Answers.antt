@@ -1,9 +1,10 @@
-use Rattle.std.proofs.Common.{◌≡◌, ◌∙◌, ap, sym, map}
+use Rattle.std.proofs.Common.{◌≡◌, ◌∙◌, ap, map}
 use Rattle.model.specs.Edit.{origin_at, position_of}
 use Rattle.model.specs.Walk.{place_after, rows_of}
+use Rattle.op_grammar.specs.Operations.{anchor_of}
 use Rattle.doc_store.specs.declared.doc.Doc.TheInside.{Inside}
 use Rattle.doc_store.specs.Kept.{Kept, state_of}
-use Rattle.doc_store.specs.Positions.{Table}
+use Rattle.fugue_tree.specs.Trees.{Table}
 use Rattle.doc_store.proofs.PlanLaws.{origin_behind, origin_first}
 use Rattle.doc_store.proofs.doc.Doc.place_among.Goals as goal
 use Rattle.doc_store.proofs.doc.Doc.place_among.Goals.{then-at-eq0, else-at-eq0}
@@ -19,4 +20,4 @@ returns c =
       | then-at-eq0 w ↦ w.left-is ∙ origin_first ids c.args.at w.if-at-eq0.true
       | else-at-eq0 w ↦ w.left-is ∙ w.position_of-left.ensures ∙ origin_behind (position_of s) c.args.among.now c.args.at _ w.if-at-eq0.false c.requires.within
     ] in
-    c.place_after.ensures ∙ ap (λ (m : Table). place_after (rows_of (λ at. at) m parent) c.if-at-eq0.left) positions ∙ ap (place_after (rows_of (λ at. at) s.positions parent)) left
+    ap anchor_of c.place_after.ensures.place ∙ ap (λ (m : Table). place_after (rows_of (λ at. at) m parent) c.if-at-eq0.left) positions ∙ ap (place_after (rows_of (λ at. at) s.positions parent)) left

@@ -1,5 +1,5 @@
-use Rattle.std.proofs.Common.{◌∙◌, sym, ap, subst}
-use Rattle.doc_store.proofs.WorkLaws.{Doing, doing_none, doing_next, no_more, one_pushed}
+use Rattle.std.proofs.Common.{◌∙◌, sym, subst}
+use Rattle.doc_store.proofs.WorkLaws.{Doing, doing_none, doing_next, no_more}
 use Rattle.doc_store.proofs.kept_rows.KeptRows.do_all.Goals as goal
 
 pub loop-id-init : goal.loop-id-init
