@@ -8,10 +8,11 @@ use Rattle.std.proofs.lemmas.List.{append-nil, take-append-drop, take_more, take
 use Rattle.std.proofs.lemmas.List.Sums.{sum_by-cons}
 use Rattle.std.proofs.lemmas.Option.{slice_get_within, get_or_from_slice_get}
 use Rattle.op_ids.specs.declared.OpId.{OpId}
+use Rattle.op_ids.specs.declared.Stamp.{Stamp}
 use Rattle.op_ids.specs.Order.{id_eq, id_lt}
 use Rattle.op_ids.proofs.OrderLaws.{lt_apart}
 use Rattle.model.specs.Value.{IsOpId}
-use Rattle.model.specs.Operation.{Anchor, IsAnchor, Operation, IsOperation, new_node, move_node, put_key, width_of}
+use Rattle.model.specs.Operation.{Anchor, IsAnchor, Operation, IsOperation, new_node, move_node, put_key, type_text, erase_text, add_item, shift_item, set_item, drop_item, width_of}
 use Rattle.model.specs.Change.{Change, EachAfter, change_stamp, is_before, name_of}
 use Rattle.model.specs.Base.{base_of}
 use Rattle.model.specs.Held.{Misfit, Refused, refers_wrongly, wrong_ids, wrong_references, unless_unfit, first_unfit}
@@ -22,14 +23,14 @@ use Rattle.model.specs.State.{State, Atom, after, apart, atoms, by_ids, change_a
 use Rattle.model_laws.specs.Arrival.{AreBelow, IsFresh, Rises, all_placed}
 use Rattle.model_laws.proofs.ChangeLaws.{AreInTimeOrder-push, EachAfter-at, EachAfter-front, EachAfter-push, stamp_less}
 use Rattle.model_laws.proofs.ListLaws.{all_back, all_both, all_more, all_of_any, filter_all, filter_none, nil_from_none}
-use Rattle.model_laws.proofs.Rising.{Rises-atoms}
+use Rattle.model_laws.proofs.Rising.{IsIn, Rises-atoms, apart_in}
 use Rattle.arrival_laws.proofs.AddLaws as place
 use Rattle.arrival_laws.proofs.AddLaws.{before_not_back}
 use Rattle.arrival_laws.proofs.ComeLaws.{comes_in_turn}
 use Rattle.arrival_laws.proofs.DocumentLaws.{empty_below, rises_back}
 use Rattle.arrival_laws.proofs.SoundLaws.{atoms-append}
 use Rattle.doc_store.specs.Documents as documents
-use Rattle.doc_store.specs.Documents.{HasNoRow, IsDocument, IsFormed, IsOfTree, IsOwnId}
+use Rattle.doc_store.specs.Documents.{HasNoRow, IsDocument, IsFormed, IsOwnId}
 use Rattle.doc_store.specs.Kept.{Kept, state_of}
 use Rattle.doc_store.specs.References.{IsFirstWrong}
 use Rattle.doc_store.specs.declared.references.BadRef.{BadRef}
@@ -55,32 +56,50 @@ id_among n id few is = let below = is.member in record { time = is.time; member 
 anchor_among : (n : ℕ) (at : Anchor) → n ≤ 32 → IsAnchor n at → IsAnchor 32 at
 anchor_among n at few is = record { on = id_among n at.on few is.on; head = is.head }
 
-operation_among : (n : ℕ) (o : Operation) → n ≤ 32 → IsOfTree o → IsOperation n o → IsOperation 32 o
-operation_among n (new_node parent at) few of is = (id_among n parent few is.0, anchor_among n at few is.1)
-operation_among n (move_node child parent at) few of is = (id_among n child few is.0, is.1, is.2, id_among n parent few is.3, anchor_among n at few is.4)
-operation_among n (put_key node key value) few of is = (id_among n node few is.0, is.1, is.2)
-operation_among n _ few of is = absurd of
+operation_among : (n : ℕ) (o : Operation) → n ≤ 32 → IsOperation n o → IsOperation 32 o
+operation_among n (new_node parent at) few is = (id_among n parent few is.0, anchor_among n at few is.1)
+operation_among n (move_node child parent at) few is = (id_among n child few is.0, is.1, is.2, id_among n parent few is.3, anchor_among n at few is.4)
+operation_among n (put_key node key value) few is = (id_among n node few is.0, is.1, is.2)
+operation_among n (type_text node at characters) few is = (id_among n node few is.0, anchor_among n at few is.1, is.2)
+operation_among n (erase_text node first count) few is = (id_among n node few is.0, id_among n first few is.1, is.2)
+operation_among n (add_item node at value) few is = (id_among n node few is.0, anchor_among n at few is.1, is.2)
+operation_among n (shift_item node element at) few is = (id_among n node few is.0, id_among n element few is.1, anchor_among n at few is.2)
+operation_among n (set_item node element value) few is = (id_among n node few is.0, id_among n element few is.1, is.2)
+operation_among n (drop_item node element) few is = (id_among n node few is.0, id_among n element few is.1)
 
--- An operation of nodes and keys takes one id.
-one_id : (id : OpId) (o : Operation) → IsOfTree o → (width_of o ≡ 1) × (apart id o ≡ record { id = id; operation = o } ∷ [])
-one_id id (new_node parent at) of = (refl, refl)
-one_id id (move_node child parent at) of = (refl, refl)
-one_id id (put_key node key value) of = (refl, refl)
-one_id id _ of = absurd of
+-- An operation takes an id at least.
+some_ids : (n : ℕ) (o : Operation) → IsOperation n o → 1 ≤ width_of o
+some_ids n (new_node parent at) is = omega arith
+some_ids n (move_node child parent at) is = omega arith
+some_ids n (put_key node key value) is = omega arith
+some_ids n (type_text node at characters) is = is.2.some
+some_ids n (erase_text node first count) is = omega arith
+some_ids n (add_item node at value) is = omega arith
+some_ids n (shift_item node element at) is = omega arith
+some_ids n (set_item node element value) is = omega arith
+some_ids n (drop_item node element) is = omega arith
 
-formed_from : (n time member index : ℕ) (os : List Operation) → n ≤ 32 → 1 ≤ time → time < 2 ^ 48 → member < n → index + sum_by width_of os ≤ 65536 → AllByRecursion (IsOperation n) os → AllByRecursion IsOfTree os
+-- an id between these two of a change
+own_between : (time member low high : ℕ) (b : Atom) → 1 ≤ time → time < 2 ^ 48 → member < 32 → high ≤ 65536 → IsIn (record { time = time; member = member }) low high b → IsOwnId b.id
+own_between time member low high b some most few within is =
+    let at : b.id.time ≡ time = ap (λ (s : Stamp). s.time) is.stamp in
+    let by : b.id.member ≡ member = ap (λ (s : Stamp). s.member) is.stamp in
+    let below = is.below in
+    record { some = omega arith; time = omega arith; member = omega arith; index = omega arith }
+
+formed_from : (n time member index : ℕ) (os : List Operation) → n ≤ 32 → 1 ≤ time → time < 2 ^ 48 → member < n → index + sum_by width_of os ≤ 65536 → AllByRecursion (IsOperation n) os
     → AllByRecursion IsFormed (by_ids time member index os)
-formed_from n time member index [] few some most below within are of = tt
-formed_from n time member index (o ∷ os) few some most below within are of =
+formed_from n time member index [] few some most below within are = tt
+formed_from n time member index (o ∷ os) few some most below within are =
     let id : OpId = record { time = time; member = member; index = index } in
-    let one = one_id id o of.0 in
-    let width : width_of o ≡ 1 = one.0 in
-    let sum = sum_by-cons width_of o os in (
+    let stamp : Stamp = record { time = time; member = member } in
+    let sum = sum_by-cons width_of o os in
+    let end : index + width_of o ≤ 65536 = omega arith in (
       record {
-        operation = operation_among n o few of.0 are.0;
-        ids = subst (AllByRecursion (λ b. IsOwnId b.id)) (sym one.1) (record { some = some; time = most; member = omega arith; index = omega arith }, tt);
+        operation = operation_among n o few are.0;
+        ids = all_more (IsIn stamp index (index + width_of o)) (λ b. IsOwnId b.id) (λ b is. own_between time member index (index + width_of o) b some most (omega arith) end is) (apart id o) (apart_in id o);
       },
-      formed_from n time member (index + width_of o) os few some most below (omega arith) are.1 of.1,
+      formed_from n time member (index + width_of o) os few some most below (omega arith) are.1,
     )
 
 -- The operations of a change that comes next have their form and their bounds.
@@ -88,14 +107,7 @@ pub formed_next : (h : List Change) (c : Change) → ComesNext h c → AllByRecu
 formed_next h c next =
     let is = next.is_change in
     let width = is.width_most in
-    formed_from next.members c.time c.member 0 c.operations next.few is.time_some is.time_most is.member (omega arith) is.operations next.of_tree
-
-tree_from : (time member index : ℕ) (os : List Operation) → AllByRecursion IsOfTree os → AllByRecursion (λ a. IsOfTree a.operation) (by_ids time member index os)
-tree_from time member index [] of = tt
-tree_from time member index (o ∷ os) of = (of.0, tree_from time member (index + width_of o) os of.1)
-
-pub tree_next : (h : List Change) (c : Change) → ComesNext h c → AllByRecursion (λ a. IsOfTree a.operation) (by_ids c.time c.member 0 c.operations)
-tree_next h c next = tree_from c.time c.member 0 c.operations next.of_tree
+    formed_from next.members c.time c.member 0 c.operations next.few is.time_some is.time_most is.member (omega arith) is.operations
 
 -- ---- the first that refers wrongly
 
@@ -113,12 +125,11 @@ place_within u place (a ∷ ops) p id e =
     omega arith
 
 -- no more operations than ids
-few_by_ids : (time member index : ℕ) (os : List Operation) → AllByRecursion IsOfTree os → length (by_ids time member index os) ≤ sum_by width_of os
-few_by_ids time member index [] of = omega arith
-few_by_ids time member index (o ∷ os) of =
-    let id : OpId = record { time = time; member = member; index = index } in
-    let width : width_of o ≡ 1 = (one_id id o of.0).0 in
-    let rest = few_by_ids time member (index + width_of o) os of.1 in
+few_by_ids : (n time member index : ℕ) (os : List Operation) → AllByRecursion (IsOperation n) os → length (by_ids time member index os) ≤ sum_by width_of os
+few_by_ids n time member index [] are = omega arith
+few_by_ids n time member index (o ∷ os) are =
+    let width = some_ids n o are.0 in
+    let rest = few_by_ids n time member (index + width_of o) os are.1 in
     let sum = sum_by-cons width_of o os in
     omega arith
 
@@ -132,7 +143,7 @@ wrong_told word h c d b is next wrong =
     let ops = by_ids c.time c.member 0 c.operations in
     let p = wrong.0 in
     let width = next.1.is_change.width_most in
-    let few = few_by_ids c.time c.member 0 c.operations next.1.of_tree in
+    let few = few_by_ids next.1.members c.time c.member 0 c.operations next.1.is_change.operations in
     let within = place_within (state_of d) 0 ops p b.id wrong.1 in
     let capped = wrong.2 in
     let same : b.op ≡ p = omega arith in
@@ -222,7 +233,6 @@ comes_next f single i c d built is =
       few = single.is_file.header.members_most;
       sound = front_is_sound f (take i f.kept) (c ∷ drop (i + 1) f.kept) single split built.joins;
       is_change = go.is_change;
-      of_tree = (all_back (λ (e : Change). AllByRecursion IsOfTree e.operations) (take i f.kept) (c ∷ drop (i + 1) f.kept) (subst (AllByRecursion (λ (e : Change). AllByRecursion IsOfTree e.operations)) split single.of_tree)).0;
       later = go.earlier;
       joins = λ right. joins_at f.members single.maker.0 (take i f.kept) c go (nil_from_none (wrong_behind (take i f.kept) c) (none_found c (slice_get (wrong_behind (take i f.kept) c) 0) right));
     }

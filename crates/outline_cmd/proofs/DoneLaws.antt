@@ -1,6 +1,6 @@
 -- Looking whether changes are taken, one by one.
-use Rattle.std.proofs.Common.{◌≡◌, ℕ, ◌+◌, ◌<◌, Bool, true, false, eqb, ◌&&◌, ◌||◌, List, [], ◌∷◌, ◌++◌, drop, refl, sym, ap, ◌∙◌, zero-add}
-use Rattle.std.specs.Prelude.{Some, length, slice_get, slice_index}
+use Rattle.std.proofs.Common.{◌≡◌, ℕ, ◌+◌, ◌<◌, Bool, true, false, ◌&&◌, List, [], ◌∷◌, ◌++◌, drop, refl, sym, ap, ◌∙◌, zero-add}
+use Rattle.std.specs.Prelude.{Some, length, slice_get}
 use Rattle.std.specs.List.{AllByRecursion, list_all}
 use Rattle.std.proofs.lemmas.Bool.{eq-eqb}
 use Rattle.std.proofs.lemmas.List.{drop_more, map-id}
@@ -8,20 +8,11 @@ use Rattle.std.proofs.lemmas.List.Folds.{list_all-append}
 use Rattle.std.proofs.lemmas.List.FromFn.{map-range_with_len_more}
 use Rattle.std.proofs.lemmas.Option.{slice_get_within, get_or_from_slice_get}
 use Rattle.model.specs.Base.{members}
-use Rattle.model.specs.Operation.{Operation, width_of}
 use Rattle.model.specs.Change.{Change}
 use Rattle.model.specs.File.{File}
-use Rattle.model.specs.State.{by_ids}
 use Rattle.model_laws.proofs.Tables.{both_true}
 use Rattle.arrival_laws.proofs.StableLaws.{of_member}
-use Rattle.outline_cmd.specs.Scope.{taken_operation, taken_change, first_maker, is_taken}
-
--- ---- operations
-
--- The operations of a change are taken one by one.
-pub all_taken : (time member index : ℕ) (os : List Operation) → list_all (λ a. taken_operation a.operation) (by_ids time member index os) ≡ list_all taken_operation os
-all_taken time member index [] = refl
-all_taken time member index (o ∷ os) = ap (λ b. taken_operation o && b) (all_taken time member (index + width_of o) os)
+use Rattle.outline_cmd.specs.Scope.{taken_change, first_maker, is_taken}
 
 -- ---- one by one
 
@@ -68,14 +59,6 @@ front_fails p n k lt fails = fails_by (passes_front p n) refl where
   fails_by true e =
       let passes : p k ≡ true = of_member (λ j. p j ≡ true) n k (all_of p (members n) e) lt in
       absurd cc
-
--- ---- a change
-
--- A change of the member, who knows of no other's, is taken if its operations are.
-pub change_passes : (m : ℕ) (c : Change) (all : Bool) → c.member ≡ m → true ≡ list_all (λ k. eqb k m || eqb (slice_index c.causes k) 0) (members (length c.causes)) → all ≡ list_all taken_operation c.operations → all ≡ taken_change m c
-change_passes m c all same alone is =
-    is ∙ ap (λ b. b && list_all taken_operation c.operations) alone
-    ∙ ap (λ b. b && (list_all (λ k. eqb k m || eqb (slice_index c.causes k) 0) (members (length c.causes)) && list_all taken_operation c.operations)) (sym (eq-eqb c.member m same))
 
 -- ---- a file
 

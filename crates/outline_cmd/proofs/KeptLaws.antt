@@ -1,11 +1,10 @@
--- The changes of a file that is taken: they are in order, numbered, and all of one member, of nodes and keys.
+-- The changes of a file that is taken: they are in order, numbered, and all of one member.
 use Rattle.std.proofs.Common.{◌≡◌, ◌≢◌, ℕ, ◌+◌, ◌<◌, Bool, true, false, eqb, ◌||◌, List, [], ◌∷◌, ◌++◌, length, Option, None, Some, refl, sym, ap, subst, ◌∙◌, inl, inr, arith}
 use Rattle.std.specs.Prelude.{IsTrue, MatchOption, filter, slice_get, slice_index, unwrap_or}
 use Rattle.std.specs.List.{AllByRecursion, list_all, last_or}
 use Rattle.std.specs.Option.{option_map_or}
 use Rattle.std.proofs.lemmas.Bool.{cases_eq, cases_lt, eqb-true, eq-eqb, ne_eqb}
 use Rattle.std.proofs.lemmas.List.{get_or_past, nil_from_length}
-use Rattle.model.specs.Operation.{Operation, new_node, move_node, put_key}
 use Rattle.model.specs.Change.{Change, is_before, EachAfter}
 use Rattle.model.specs.Base.{MemberRow, members, base_of, count_of, known_by, last_change}
 use Rattle.model.specs.Held.{row_behind}
@@ -15,10 +14,9 @@ use Rattle.model_laws.proofs.Tables.{both_true}
 use Rattle.arrival_laws.proofs.AddLaws.{InOrder, all_later, last_or-append, filter-append}
 use Rattle.arrival_laws.proofs.SoundLaws.{Numbered, is_one, is_none, count_one}
 use Rattle.ledger_laws.proofs.OrderedLaws.{base_count}
-use Rattle.doc_store.specs.Documents.{IsOfTree}
 use Rattle.replica.specs.Scanning.{HasEmptyBase}
 use Rattle.replica.specs.Empty.{base_in}
-use Rattle.outline_cmd.specs.Scope.{taken_operation, taken_change, first_maker, is_taken}
+use Rattle.outline_cmd.specs.Scope.{taken_change, first_maker, is_taken}
 
 -- ---- order
 
@@ -98,25 +96,18 @@ pub record IsOf (member : ℕ) (c : Change) : Type 0 where
   pub maker : c.member ≡ member
   pub others : (k : ℕ) → k ≢ member → slice_index c.causes k ≡ 0
 
--- A file that has the empty base, in which nothing waits, and whose changes are all of one member, and of nodes and keys.
+-- A file that has the empty base, in which nothing waits, and whose changes are all of one member.
 pub record IsSingle (f : File) : Type 0 where
   pub is_file : IsFile f
   pub kind : f.kind ≢ bundle
   pub untrimmed : f.base ≡ Some (base_of f.members [] 0)
   pub none_waits : f.waiting ≡ []
   pub maker : (member : ℕ) × AllByRecursion (IsOf member) f.kept
-  pub of_tree : AllByRecursion (λ c. AllByRecursion IsOfTree c.operations) f.kept
 
 -- what a test of each says
 each_passes : {A : Type 0} (P : A → Type 0) (test : A → Bool) → ((x : A) → test x ≡ true → P x) → (xs : List A) → list_all test xs ≡ true → AllByRecursion P xs
 each_passes P test says [] e = tt
 each_passes P test says (x ∷ xs) e = let both = both_true (test x) (list_all test xs) e in (says x both.0, each_passes P test says xs both.1)
-
-of_tree : (o : Operation) → taken_operation o ≡ true → IsOfTree o
-of_tree (new_node parent at) e = tt
-of_tree (move_node child parent at) e = tt
-of_tree (put_key node key value) e = tt
-of_tree _ e = absurd cc
 
 zero_or_own : (a b : Bool) (k m x : ℕ) → a ≡ eqb k m → b ≡ eqb x 0 → (a || b) ≡ true → k ≢ m → x ≡ 0
 zero_or_own true b k m x is zero e other = absurd (other (eqb-true k m (sym is)))
@@ -133,15 +124,8 @@ no_other m causes e k other =
 
 of_maker : (m : ℕ) (c : Change) → taken_change m c ≡ true → IsOf m c
 of_maker m c e =
-    let first = both_true (eqb c.member m) _ e in
-    let second = both_true (list_all (λ k. eqb k m || eqb (slice_index c.causes k) 0) (members (length c.causes))) (list_all taken_operation c.operations) first.1 in
-    record { maker = eqb-true c.member m first.0; others = no_other m c.causes second.0 }
-
-all_of_tree : (m : ℕ) (c : Change) → taken_change m c ≡ true → AllByRecursion IsOfTree c.operations
-all_of_tree m c e =
-    let first = both_true (eqb c.member m) _ e in
-    let second = both_true (list_all (λ k. eqb k m || eqb (slice_index c.causes k) 0) (members (length c.causes))) (list_all taken_operation c.operations) first.1 in
-    each_passes IsOfTree taken_operation of_tree c.operations second.1
+    let both = both_true (eqb c.member m) (list_all (λ k. eqb k m || eqb (slice_index c.causes k) 0) (members (length c.causes))) e in
+    record { maker = eqb-true c.member m both.0; others = no_other m c.causes both.1 }
 
 based : (f : File) (k : Kind) → f.kind ≡ k → k ≢ bundle → HasEmptyBase f → f.base ≡ Some (base_of f.members [] 0)
 based f member_file is other base = base ∙ ap (λ (k : Kind). base_in k f.members) is
@@ -159,5 +143,4 @@ single_from f is base kind taken =
       untrimmed = based f f.kind refl kind base;
       none_waits = nil_from_length f.waiting (eqb-true (length f.waiting) 0 two.0);
       maker = (m, each_passes (IsOf m) (taken_change m) (of_maker m) f.kept two.1);
-      of_tree = each_passes (λ c. AllByRecursion IsOfTree c.operations) (taken_change m) (all_of_tree m) f.kept two.1;
     }

@@ -9,10 +9,10 @@ use Rattle.std.proofs.lemmas.Option.{same_Some}
 use Rattle.model.specs.Operation.{Operation}
 use Rattle.model.specs.Change.{Change}
 use Rattle.model.specs.Base.{members, count_of, vec_of}
-use Rattle.model.specs.State.{State, replay}
+use Rattle.model.specs.State.{replay}
 use Rattle.model.specs.Held.{Held, Refused, held}
 use Rattle.model.specs.Ledger.{made}
-use Rattle.model.specs.Edit.{Edit, WrongEdit, new_child, move_child, trash_child, put_value, unset_key, plan, edit_fault}
+use Rattle.model.specs.Edit.{Edit, WrongEdit, plan, edit_fault}
 use Rattle.model.specs.Command.{Unmade, clocked, one_made, planned, made_edit}
 use Rattle.model.specs.File.{File}
 use Rattle.model.specs.Reading.{unfit_in, with_changes}
@@ -24,7 +24,7 @@ use Rattle.ledger_laws.proofs.MadeLaws.{clocked_is}
 use Rattle.outline_cmd.specs.Edits.{with_change}
 use Rattle.outline_cmd.specs.Opened.{IsTaken}
 use Rattle.outline_cmd.specs.Outcome.{Outcome, edited, fitting, held_by_some, refused_told}
-use Rattle.outline_cmd.specs.Scope.{first_maker, is_taken, taken_change, taken_edit, taken_editor, taken_operation}
+use Rattle.outline_cmd.specs.Scope.{first_maker, is_taken, taken_change, taken_editor}
 use Rattle.outline_cmd.specs.declared.status.Status.TheVariants as s
 use Rattle.outline_cmd.proofs.LedgerMeaning.{on_done, provided_done, edit_done}
 use Rattle.outline_cmd.proofs.MadeLaws.{change_made, single_of, made_is, stored_is}
@@ -50,16 +50,8 @@ knows_no_others n m h own =
     ] in
     subst (λ l. list_all test (members l) ≡ true) (sym (length-vec_of n h)) (list_of_all test (members n) (all_more (λ k. k < n) (λ k. test k ≡ true) each (members n) (members_below n)))
 
-plan_taken : (st : State) (e : Edit) → taken_edit e ≡ Ok tt → list_all taken_operation (plan st e) ≡ true
-plan_taken st (new_child parent i) is = refl
-plan_taken st (move_child child parent i) is = refl
-plan_taken st (trash_child child) is = refl
-plan_taken st (put_value node key value) is = refl
-plan_taken st (unset_key node key) is = refl
-plan_taken st _ is = absurd cc
-
-change_taken : (f : File) (m : ℕ) (os : List Operation) → list_all (λ c. eqb c.member m) f.kept ≡ true → list_all taken_operation os ≡ true → taken_change m (change_made f m os) ≡ true
-change_taken f m os own ops = rw (eq-eqb m m refl, knows_no_others f.members m f.kept own, ops) refl
+change_taken : (f : File) (m : ℕ) (os : List Operation) → list_all (λ c. eqb c.member m) f.kept ≡ true → taken_change m (change_made f m os) ≡ true
+change_taken f m os own = rw (eq-eqb m m refl, knows_no_others f.members m f.kept own) refl
 
 -- ---- the file with it
 
@@ -71,10 +63,10 @@ kept_taken m (d ∷ kept) c all own maker is =
     let last : (taken_change d.member c && true) ≡ true = subst (λ k. (taken_change k c && true) ≡ true) (sym first) (rw is refl) in
     list_all-append (taken_change d.member) (d ∷ kept) (c ∷ []) ∙ rw (all, last) refl
 
-file_taken : (f : File) (m : ℕ) (os : List Operation) → is_taken f ≡ true → list_all (λ c. eqb c.member m) f.kept ≡ true → list_all taken_operation os ≡ true → is_taken (with_change f (change_made f m os)) ≡ true
-file_taken f m os taken own ops =
+file_taken : (f : File) (m : ℕ) (os : List Operation) → is_taken f ≡ true → list_all (λ c. eqb c.member m) f.kept ≡ true → is_taken (with_change f (change_made f m os)) ≡ true
+file_taken f m os taken own =
     let both = both_true (eqb (length f.waiting) 0) (list_all (taken_change (first_maker f.kept)) f.kept) taken in
-    rw (both.0, kept_taken m f.kept (change_made f m os) both.1 own refl (change_taken f m os own ops)) refl
+    rw (both.0, kept_taken m f.kept (change_made f m os) both.1 own refl (change_taken f m os own)) refl
 
 -- ---- what is made
 
@@ -95,9 +87,9 @@ none_refused : (o : Option Refused) (u : Unit {0}) → refused_told 1 o ≡ Ok u
 none_refused None u e = refl
 none_refused (Some r) u e = absurd cc
 
--- A file that is taken is so still after an edit that is taken.
-pub stays_taken : (f : File) (e : Edit) (o : Outcome) (g : File) → IsTaken f → taken_editor f.mine f.kept ≡ Ok tt → taken_edit e ≡ Ok tt → edited e f ≡ Ok o → o.stored ≡ Some g → is_taken g ≡ true
-stays_taken f e o g taken editor tree is stored =
+-- A file that is taken is so still after an edit.
+pub stays_taken : (f : File) (e : Edit) (o : Outcome) (g : File) → IsTaken f → taken_editor f.mine f.kept ≡ Ok tt → edited e f ≡ Ok o → o.stored ≡ Some g → is_taken g ≡ true
+stays_taken f e o g taken editor is stored =
     let single = single_of f taken in
     let n = f.members in
     let past = held n f.kept in
@@ -110,4 +102,4 @@ stays_taken f e o g taken editor tree is stored =
     let own = provided_done (list_all (λ c. eqb c.member m) f.kept) (s.NotBuilt 1) tt (ap (λ l. taken_editor l f.kept) (sym mine) ∙ editor) in
     let lt : m < n = (subst (AllByRecursion (λ k. k < n)) mine single.is_file.header.mine_below).0 in
     let same : g ≡ with_change f (change_made f m os) = same_Some g (with_changes f cs) (sym stored ∙ stores) ∙ ap (with_changes f) one ∙ stored_is f m os single fit lt in
-    subst (λ x. is_taken x ≡ true) (sym same) (file_taken f m os taken.taken own (plan_taken (replay f.kept) e tree))
+    subst (λ x. is_taken x ≡ true) (sym same) (file_taken f m os taken.taken own)

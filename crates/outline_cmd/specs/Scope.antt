@@ -1,11 +1,9 @@
 -- What this version takes. Everything else is answered by NotBuilt, and stands here alone.
-use Rattle.std.specs.Prelude.{◌≡◌, ℕ, ◌==◌, ◌&&◌, ◌||◌, Bool, true, false, not, List, [], ◌∷◌, codes, length, Result, Ok, Err, bytes_eq, slice_index}
+use Rattle.std.specs.Prelude.{◌≡◌, ℕ, ◌==◌, ◌&&◌, ◌||◌, Bool, false, not, List, [], ◌∷◌, codes, length, Result, Ok, Err, bytes_eq, slice_index}
 use Rattle.std.specs.List.{list_any, list_all}
-use Rattle.model.specs.Operation.{Operation, new_node, move_node, put_key}
 use Rattle.model.specs.Change.{Change}
 use Rattle.model.specs.Base.{members}
 use Rattle.model.specs.File.{File, Kind, bundle}
-use Rattle.model.specs.Edit.{Edit, new_child, move_child, trash_child, put_value, unset_key}
 use Rattle.model.specs.Command.{found, edit, show, items}
 use Rattle.replica.specs.Scanning.{HasOtherBase}
 use Rattle.outline_words.specs.Table.{Order, command}
@@ -18,8 +16,7 @@ use Rattle.outline_cmd.specs.declared.status.Status.TheVariants.{NotBuilt}
 -- the commands that aren't taken
 abbrev pub untaken_names : List (List ℕ)
 untaken_names =
-    codes "type" ∷ codes "erase" ∷ codes "add" ∷ codes "shift" ∷ codes "set" ∷ codes "drop" ∷ codes "ack"
-    ∷ codes "status" ∷ codes "log" ∷ codes "bundle" ∷ codes "deliver" ∷ codes "trim" ∷ codes "snapshot" ∷ codes "release" ∷ codes "begin" ∷ codes "check"
+    codes "ack" ∷ codes "status" ∷ codes "log" ∷ codes "bundle" ∷ codes "deliver" ∷ codes "trim" ∷ codes "snapshot" ∷ codes "release" ∷ codes "begin" ∷ codes "check"
     ∷ codes "play" ∷ codes "sample" ∷ []
 
 abbrev pub is_one_of : List (List ℕ) → List ℕ → Bool
@@ -33,18 +30,9 @@ names_untaken (word ∷ words) = is_one_of untaken_names word
 abbrev pub taken_words : List (List ℕ) → Result Unit Status
 taken_words words = provided (not (names_untaken words)) (NotBuilt 0)
 
--- an edit of the tree, or of a key
-abbrev pub taken_edit : Edit → Result Unit Status
-taken_edit (new_child parent i) = Ok tt
-taken_edit (move_child child parent i) = Ok tt
-taken_edit (trash_child child) = Ok tt
-taken_edit (put_value node key value) = Ok tt
-taken_edit (unset_key node key) = Ok tt
-taken_edit _ = Err (NotBuilt 0)
-
 abbrev pub taken_order : Order → Result Unit Status
 taken_order (command (found document n name)) = Ok tt
-taken_order (command (edit name e)) = taken_edit e
+taken_order (command (edit name e)) = Ok tt
 taken_order (command (show name)) = Ok tt
 taken_order (command (items name)) = Ok tt
 taken_order _ = Err (NotBuilt 0)
@@ -56,16 +44,9 @@ abbrev pub taken_base : ℕ → List ℕ → Result Unit Status → Type 0
 taken_base word bytes (Ok u) = HasOtherBase bytes → ⊥
 taken_base word bytes (Err refusal) = (refusal ≡ NotBuilt word) × HasOtherBase bytes
 
--- a node that is made or moved, or a key
-abbrev pub taken_operation : Operation → Bool
-taken_operation (new_node parent at) = true
-taken_operation (move_node child parent at) = true
-taken_operation (put_key node key value) = true
-taken_operation _ = false
-
--- a change of this member, who knows of no other's, of operations that are taken
+-- a change of this member, who knows of no other's
 abbrev pub taken_change : ℕ → Change → Bool
-taken_change m c = c.member == m && (list_all (λ k. k == m || slice_index c.causes k == 0) (members (length c.causes)) && list_all taken_operation c.operations)
+taken_change m c = c.member == m && list_all (λ k. k == m || slice_index c.causes k == 0) (members (length c.causes))
 
 -- who made the first of these
 abbrev pub first_maker : List Change → ℕ

@@ -1,36 +1,35 @@
 -- What a task of the code is to do, and what is made of the bytes of its file. Private contracts alone cite this.
 use Rattle.std.specs.Prelude.{◌≡◌, ℕ, List, Ok}
 use Rattle.model.specs.Value as model
-use Rattle.model.specs.Edit.{Edit, new_child, move_child, trash_child, put_value, unset_key}
+use Rattle.model.specs.Edit.{Edit, put_value, add_at, set_at}
 use Rattle.model.specs.Command.{found, edit, show, items}
+use Rattle.doc_store.specs.Edits.{edit_of}
 use Rattle.outline_words.specs.Commands.{SaysValue, IsOrder}
+use Rattle.outline_words.specs.Forms.{IsWordValue}
 use Rattle.outline_words.specs.Table.{Order, command}
 use Rattle.outline_words.specs.declared.command.WordValue.{WordValue}
 use Rattle.outline_words.specs.declared.command.WordValue.TheVariants as v
 use Rattle.outline_cmd.specs.declared.edit_words.EditWords.{EditWords}
-use Rattle.outline_cmd.specs.declared.edit_words.EditWords.TheVariants as w
 use Rattle.outline_cmd.specs.declared.scope.Task.{Task}
 use Rattle.outline_cmd.specs.declared.scope.Task.TheVariants as t
 use Rattle.outline_cmd.specs.Meaning.{Meaning, ◌>>=◌, exactly, missing, whole, Loads, Roles, roles, Answer, order_made, answered}
 use Rattle.outline_cmd.specs.Outcome.{Outcome}
 
--- the edit that the words say
+-- the edit with this value, if it is one that has a value
+abbrev pub with_value : Edit → model.Value → Edit
+with_value (put_value node key old) value = put_value node key value
+with_value (add_at node at old) value = add_at node at value
+with_value (set_at node at old) value = set_at node at value
+with_value e value = e
+
+-- the edit that the words say, with the value that they say
 abbrev pub SaysEdit : EditWords → Edit → Type 0
-SaysEdit (w.New parent at) e = e ≡ new_child parent at
-SaysEdit (w.Move child parent at) e = e ≡ move_child child parent at
-SaysEdit (w.Trash child) e = e ≡ trash_child child
-SaysEdit (w.Put node key value) e = (said : model.Value) × SaysValue value said × (e ≡ put_value node key.now said)
-SaysEdit (w.Unset node key) e = e ≡ unset_key node key.now
+SaysEdit words e = (said : model.Value) × SaysValue words.value said × IsWordValue said × (e ≡ with_value (edit_of words.edit) said)
 
 -- These are the value's bytes, where a word gives them in digits.
 abbrev pub GivesValue : WordValue → model.Value → List ℕ → Type 0
 GivesValue (v.Plain plain) value bytes = Unit {0}
 GivesValue (v.Digits digits) value bytes = value ≡ model.bytes bytes
-
--- the same of the value of an edit
-abbrev pub GivesBytes : EditWords → Edit → List ℕ → Type 0
-GivesBytes (w.Put node key value) e bytes = (said : model.Value) → e ≡ put_value node key.now said → GivesValue value said bytes
-GivesBytes _ e bytes = Unit {0}
 
 abbrev pub Tells : Task → Order → Type 0
 Tells (t.Found document members name) order = order ≡ command (found document members name.now)

@@ -12,7 +12,7 @@ ghost use Rattle.model.specs.Reading.{unfit_in};
 ghost use Rattle.keeping_laws.specs.Forms.{IsEdit};
 ghost use Rattle.op_grammar.specs.Changes.{change_of, head_of};
 ghost use Rattle.op_grammar.specs.Operations.{operations_of};
-ghost use Rattle.doc_store.specs.Edits.{IsTreeEdit, edit_of};
+ghost use Rattle.doc_store.specs.Edits.{edit_of};
 ghost use Rattle.outline_words.specs.Commands.{IsWordEdit};
 ghost use Rattle.outline_words.specs.Table.{command};
 ghost use Rattle.outline_cmd.specs.Tasks.{SaysEdit, order_made_of};
@@ -69,7 +69,6 @@ fn editor(parts: &FileParts<'_>) -> Result<u8, Status>
 /// The operations of an edit of a file that is taken.
 fn plan_of<'w>(alloc: Global, parts: &FileParts<'_>, edit: &Edit<'w>) -> Result<OpPlan<'w>, Status>
     requires taken { IsTaken parts.now }
-    requires tree { IsTreeEdit (edit_of edit.now) }
     ensures told { Follows operations_of result (exactly (planned_in parts.now (edit_of edit.now))) }
     ensures fit { IfOk result (λ plan. unfit_in parts.now ≡ None) }
 {
@@ -191,7 +190,6 @@ fn edit_parts<'w>(
     edit: &Edit<'_>,
 ) -> Result<Answer<'w>, Status>
     requires taken { IsTaken parts }
-    requires tree { IsTreeEdit (edit_of edit.now) }
     requires form { IsEdit (edit_of edit.now) }
     ensures { Follows answer_of result (exactly (edited_in name.now parts.entry (edit_of edit.now))) }
 {

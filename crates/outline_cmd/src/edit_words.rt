@@ -2,79 +2,53 @@
 
 ghost use Rattle.std.specs.Prelude.{◌≡◌, ℕ, List, IfOk, IfErr};
 ghost use Rattle.cbor_det.specs.Head.{IsBytes};
-ghost use Rattle.model.specs.Edit.{Edit as TheEdit};
 ghost use Rattle.model.specs.Text.{hex};
 ghost use Rattle.model.specs.Value.{Value as TheValue};
 ghost use Rattle.op_grammar.specs.Values.{value_of};
 ghost use Rattle.doc_store.specs.Edits.{edit_of};
-ghost use Rattle.outline_words.specs.Commands.{SaysValue, IsWordEdit};
-ghost use Rattle.outline_cmd.specs.Tasks.{SaysEdit, GivesValue, GivesBytes};
+ghost use Rattle.outline_words.specs.Commands.{SaysValue};
+ghost use Rattle.outline_words.specs.Forms.{IsWordValue};
+ghost use Rattle.outline_cmd.specs.Tasks.{GivesValue, with_value};
 ghost use Rattle.outline_cmd.specs.declared.status.Status.TheVariants.{NoMemory};
 
 use crate::status::Status;
 use doc_store::Edit;
 use op_grammar::Value;
-use op_ids::OpId;
 use outline_words::WordValue;
 use std::alloc::Global;
 
-/// An edit that this version takes, as words give it.
+/// An edit, as words give it: the edit with null for its value, and the word of the value. Where the edit has no value, that
+/// is null too.
 #[derive(Clone, Copy)]
-pub(crate) enum EditWords<'w> {
-    New {
-        parent: OpId,
-        at: u32,
-    },
-    Move {
-        child: OpId,
-        parent: OpId,
-        at: u32,
-    },
-    Trash {
-        child: OpId,
-    },
-    Put {
-        node: OpId,
-        key: &'w str,
-        value: WordValue<'w>,
-    },
-    Unset {
-        node: OpId,
-        key: &'w str,
-    },
+pub(crate) struct EditWords<'w> {
+    pub(crate) edit: Edit<'w>,
+    pub(crate) value: WordValue<'w>,
 }
 
 impl<'w> EditWords<'w> {
-    /// The bytes that the words give in digits, or none.
+    /// The bytes that the value's word gives in digits, or none.
     pub(crate) fn decode(self, alloc: Global) -> Result<Vec<u8>, Status>
-        ensures ok { (e : TheEdit) → SaysEdit self.entry e → IsWordEdit e
-            → IfOk result (λ bytes. GivesBytes self.entry e bytes.items) }
+        ensures ok { (said : TheValue) → SaysValue self.entry.value said → IsWordValue said
+            → IfOk result (λ bytes. GivesValue self.entry.value said bytes.items) }
         ensures err { IfErr result (λ status. status ≡ NoMemory) }
     {
-        match self {
-            EditWords::Put {
-                value: WordValue::Digits(digits),
-                ..
-            } => decoded(alloc, digits),
-            _ => Ok(Vec::new(alloc)),
+        match self.value {
+            WordValue::Digits(digits) => decoded(alloc, digits),
+            WordValue::Plain(_) => Ok(Vec::new(alloc)),
         }
     }
 
-    /// The edit, with the bytes that were decoded.
+    /// The edit with its value, for which the bytes were decoded.
     pub(crate) fn edit(self, bytes: &'w [u8]) -> Edit<'w>
-        ensures { (e : TheEdit) → SaysEdit self.entry e → GivesBytes self.entry e bytes.now
-            → edit_of result ≡ e }
+        ensures { (said : TheValue) → SaysValue self.entry.value said → GivesValue self.entry.value said bytes.now
+            → edit_of result ≡ with_value (edit_of self.entry.edit) said }
     {
-        match self {
-            EditWords::New { parent, at } => Edit::New { parent, at },
-            EditWords::Move { child, parent, at } => Edit::Move { child, parent, at },
-            EditWords::Trash { child } => Edit::Trash { child },
-            EditWords::Put { node, key, value } => Edit::Put {
-                node,
-                key,
-                value: value_with(value, bytes),
-            },
-            EditWords::Unset { node, key } => Edit::Unset { node, key },
+        let value = value_with(self.value, bytes);
+        match self.edit {
+            Edit::Put { node, key, .. } => Edit::Put { node, key, value },
+            Edit::Add { node, at, .. } => Edit::Add { node, at, value },
+            Edit::Set { node, at, .. } => Edit::Set { node, at, value },
+            edit => edit,
         }
     }
 }

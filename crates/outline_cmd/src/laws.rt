@@ -17,7 +17,7 @@ ghost use Rattle.outline_cmd.specs.OfBytes.{AreOfBytes};
 ghost use Rattle.outline_cmd.specs.Opened.{IsTaken};
 ghost use Rattle.outline_cmd.specs.Outcome.{Outcome, edited};
 ghost use Rattle.outline_cmd.specs.Run.{AreOf, with_store};
-ghost use Rattle.outline_cmd.specs.Scope.{taken_edit, taken_editor, is_taken};
+ghost use Rattle.outline_cmd.specs.Scope.{taken_editor, is_taken};
 ghost use Rattle.outline_cmd.specs.declared.status.Status.{Status as TheStatus};
 
 /// A file that this version takes stands for the ledger of its changes exactly where they fit one another, and for no
@@ -28,9 +28,9 @@ pub fn taken_files_stand()
     ensures state { (f : File) → IsTaken f → state_in f ≡ replay f.kept }
 {}
 
-/// A file that is taken is so still after an edit that is taken.
+/// A file that is taken is so still after an edit.
 pub fn taken_files_stay_taken()
-    ensures { (f : File) (e : Edit) (o : Outcome) (g : File) → IsTaken f → taken_editor f.mine f.kept ≡ Ok tt → taken_edit e ≡ Ok tt
+    ensures { (f : File) (e : Edit) (o : Outcome) (g : File) → IsTaken f → taken_editor f.mine f.kept ≡ Ok tt
         → edited e f ≡ Ok o → o.stored ≡ Some g → is_taken g ≡ true }
 {}
 

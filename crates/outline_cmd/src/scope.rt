@@ -2,18 +2,22 @@
 
 ghost use Rattle.std.specs.Prelude.{◌≡◌, IfOk, IfErr, Ok, Err};
 ghost use Rattle.std.specs.Option.{option_map};
-ghost use Rattle.outline_words.specs.Commands.{Says};
-ghost use Rattle.outline_words.specs.Table.{Order};
+ghost use Rattle.model.specs.Value.{Value as TheValue, null};
+ghost use Rattle.doc_store.specs.Edits.{edit_of};
+ghost use Rattle.outline_words.specs.Commands.{IsOrder, Says, SaysValue};
+ghost use Rattle.outline_words.specs.Forms.{IsWordValue};
+ghost use Rattle.outline_words.specs.Table.{Order, edited};
 ghost use Rattle.outline_cmd.specs.Meaning.{roles};
 ghost use Rattle.outline_cmd.specs.Scope.{untaken_names, is_one_of, taken_order, names_untaken as names_an_untaken};
 ghost use Rattle.outline_cmd.specs.Stages.{named_of};
-ghost use Rattle.outline_words.specs.Commands.{IsOrder};
-ghost use Rattle.outline_cmd.specs.Tasks.{Does};
+ghost use Rattle.outline_cmd.specs.Tasks.{Does, Tells, with_value};
 
 use crate::edit_words::EditWords;
 use crate::input::Named;
 use crate::status::Status;
-use outline_words::{Command, Words};
+use doc_store::Edit;
+use op_grammar::Value;
+use outline_words::{Command, WordValue, Words};
 
 /// A command that this version takes.
 #[derive(Clone, Copy)]
@@ -74,13 +78,7 @@ fn is_untaken(word: &str) -> bool
 {
     matches!(
         word,
-        "type"
-            | "erase"
-            | "add"
-            | "shift"
-            | "set"
-            | "drop"
-            | "ack"
+        "ack"
             | "status"
             | "log"
             | "bundle"
@@ -100,48 +98,92 @@ pub(crate) fn take<'w>(command: Command<'w>) -> Result<Task<'w>, Status>
     ensures ok { (order : Order) → Says command.entry order → IsOrder order → IfOk result (λ task. Does task order × (taken_order order ≡ Ok tt)) }
     ensures err { (order : Order) → Says command.entry order → IfErr result (λ status. taken_order order ≡ Err status) }
 {
-    match command {
-        Command::Found { doc, n, name } => Ok(Task::Found {
+    // Stands in an edit for the value that a word gives.
+    let value = Value::Null;
+    let task = match command {
+        Command::Found { doc, n, name } => Task::Found {
             document: doc,
             members: n,
             name,
-        }),
-        Command::New { name, parent, i } => Ok(Task::Edit {
-            name,
-            edit: EditWords::New { parent, at: i },
-        }),
+        },
+        Command::New { name, parent, i } => plain(name, Edit::New { parent, at: i }),
         Command::Move {
             name,
             child,
             parent,
-            i,
-        } => Ok(Task::Edit {
-            name,
-            edit: EditWords::Move {
-                child,
-                parent,
-                at: i,
-            },
-        }),
-        Command::Trash { name, child } => Ok(Task::Edit {
-            name,
-            edit: EditWords::Trash { child },
-        }),
+            i: at,
+        } => plain(name, Edit::Move { child, parent, at }),
+        Command::Trash { name, child } => plain(name, Edit::Trash { child }),
         Command::Put {
             name,
             node,
             key,
-            value,
-        } => Ok(Task::Edit {
+            value: word,
+        } => valued(name, Edit::Put { node, key, value }, word),
+        Command::Unset { name, node, key } => plain(name, Edit::Unset { node, key }),
+        Command::TypeText {
             name,
-            edit: EditWords::Put { node, key, value },
-        }),
-        Command::Unset { name, node, key } => Ok(Task::Edit {
+            node,
+            at,
+            text,
+        } => plain(name, Edit::TypeText { node, at, text }),
+        Command::Erase {
             name,
-            edit: EditWords::Unset { node, key },
-        }),
-        Command::Show { name } => Ok(Task::Show { name }),
-        Command::Items { name } => Ok(Task::Items { name }),
-        _ => Err(Status::NotBuilt { word: 0 }),
+            node,
+            at,
+            count,
+        } => plain(name, Edit::Erase { node, at, count }),
+        Command::Add {
+            name,
+            node,
+            at,
+            value: word,
+        } => valued(name, Edit::Add { node, at, value }, word),
+        Command::Shift {
+            name,
+            node,
+            from,
+            to,
+        } => plain(name, Edit::Shift { node, from, to }),
+        Command::Set {
+            name,
+            node,
+            at,
+            value: word,
+        } => valued(name, Edit::Set { node, at, value }, word),
+        Command::DropItem { name, node, at } => plain(name, Edit::Drop { node, at }),
+        Command::Show { name } => Task::Show { name },
+        Command::Items { name } => Task::Items { name },
+        Command::Ack { .. }
+        | Command::Status { .. }
+        | Command::Log { .. }
+        | Command::Bundle { .. }
+        | Command::Deliver { .. }
+        | Command::Trim { .. }
+        | Command::Snapshot { .. }
+        | Command::Release { .. }
+        | Command::Begin { .. }
+        | Command::Check { .. }
+        | Command::Play { .. }
+        | Command::Sample { .. } => return Err(Status::NotBuilt { word: 0 }),
+    };
+    Ok(task)
+}
+
+/// The task of an edit that has no value.
+fn plain<'w>(name: &'w str, edit: Edit<'w>) -> Task<'w>
+    ensures { (order : Order) → order ≡ edited name.now (with_value (edit_of edit.entry) null) → Tells result order }
+{
+    valued(name, edit, WordValue::Plain(Value::Null))
+}
+
+/// The task of an edit with the value that a word gives.
+fn valued<'w>(name: &'w str, edit: Edit<'w>, value: WordValue<'w>) -> Task<'w>
+    ensures { (order : Order) (said : TheValue) → SaysValue value.entry said → IsWordValue said
+        → order ≡ edited name.now (with_value (edit_of edit.entry) said) → Tells result order }
+{
+    Task::Edit {
+        name,
+        edit: EditWords { edit, value },
     }
 }

@@ -3,38 +3,11 @@
 ghost use Rattle.std.specs.Prelude.{◌≡◌, ◌==◌, ◌||◌, length, slice_index};
 ghost use Rattle.std.specs.List.{list_all};
 ghost use Rattle.model.specs.Base.{members};
-ghost use Rattle.op_grammar.specs.Operations.{operation_of};
-ghost use Rattle.outline_cmd.specs.Scope.{taken_operation, taken_change, first_maker as maker_of_first, is_taken as takes};
+ghost use Rattle.outline_cmd.specs.Scope.{taken_change, first_maker as maker_of_first, is_taken as takes};
 
-use lazy_blocks::{Block, Ops, Shelf};
-use op_grammar::{OpRef, OpSource};
-use outside::Tally;
+use lazy_blocks::{Block, Shelf};
 use replica::FileParts;
 use version_vector::Vector;
-
-/// Whether an operation is taken.
-fn takes_operation(op: OpRef<'_>) -> bool
-    ensures { result ≡ taken_operation (operation_of op.entry) }
-{
-    matches!(
-        op,
-        OpRef::NewNode { .. } | OpRef::MoveNode { .. } | OpRef::PutKey { .. }
-    )
-}
-
-/// Whether all of these operations are taken.
-fn takes_operations(ops: Ops<'_>) -> bool
-    ensures { result ≡ list_all (λ a. taken_operation a.operation) ops.entry }
-{
-    let mut ops = ops;
-    let mut tally = Tally::new();
-    while let Some((_, op)) = ops.next_op(&mut tally) {
-        if !takes_operation(op) {
-            return false;
-        }
-    }
-    true
-}
 
 /// Whether so many changes are known of no member but this one.
 fn knows_one(causes: &Vector, maker: u8) -> bool
@@ -53,7 +26,7 @@ fn takes_change(block: &Block<'_>, maker: u8) -> bool
     ensures { result ≡ taken_change maker block.now }
 {
     let head = block.head();
-    head.member == maker && knows_one(&head.causes, maker) && takes_operations(block.ops())
+    head.member == maker && knows_one(&head.causes, maker)
 }
 
 /// Who made the first of these changes, or 0.

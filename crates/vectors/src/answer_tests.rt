@@ -6,6 +6,7 @@ use crate::runs::{NO_FAULTS, Step, take, take_with};
 use cbor_det::{CborFault, Why};
 use outline_cmd::{BadFile, EditFault, MemberFault, Status};
 use outside::MemKeeper;
+use std::alloc::Global;
 use std::test::*;
 
 const PUT: &[&str] = &["put", "a", "root", "a", "true"];
@@ -133,6 +134,16 @@ const FIXED: Status = Status::Edit {
     word: 2,
 };
 
+const NO_TEXT: Status = Status::Edit {
+    fault: EditFault::Empty,
+    word: 4,
+};
+
+const NO_CHARACTERS: Status = Status::Edit {
+    fault: EditFault::NoChars,
+    word: 4,
+};
+
 /// Words that are no command, and the first wrong one.
 const WRONG: &[(&[&str], u32)] = &[
     (&[], 0),
@@ -182,16 +193,20 @@ const REFUSALS: &[(&[&str], Status)] = &[
     (&["put", "q", "root", "", "1"], Status::Missing { word: 1 }),
     (&["put", "a", "root", "", "1"], EMPTY),
     (&["unset", "a", "root", ""], EMPTY),
-    (
-        &["add", "a", "root", "0", "1"],
-        Status::NotBuilt { word: 0 },
-    ),
     (&["put", "a", "1.0.0", "k", "1"], NO_NODE),
     (&["unset", "a", "trash", "k"], NO_NODE),
     (&["new", "a", "1.0.0", "0"], NO_NODE),
     (&["new", "a", "root", "1"], NO_PLACE),
     (&["move", "a", "trash", "1.0.0", "0"], FIXED),
     (&["trash", "a", "root"], FIXED),
+    (&["type", "a", "1.0.0", "0", "x"], NO_NODE),
+    (&["type", "a", "root", "1", "x"], NO_PLACE),
+    (&["type", "a", "root", "0", ""], NO_TEXT),
+    (&["erase", "a", "root", "0", "1"], NO_CHARACTERS),
+    (&["add", "a", "root", "1", "1"], NO_PLACE),
+    (&["shift", "a", "root", "0", "0"], NO_PLACE),
+    (&["set", "a", "root", "0", "1"], NO_PLACE),
+    (&["drop", "a", "root", "0"], NO_PLACE),
 ];
 
 #[test]
@@ -230,12 +245,31 @@ const ENDS: &[(&[&str], &str)] = &[
     ),
 ];
 
-#[test]
-fn takes_the_ends(rt: HostRuntime) -> Result<(), Fail> {
-    let alloc = rt.alloc();
+/// A text that is typed and erased, and a list whose elements are added, shifted, set and dropped.
+const TEXT_AND_LIST: &[(&[&str], &str)] = &[
+    (&["type", "a", "root", "0", "abd\u{1f600}"], "made 0 2 2\n"),
+    (&["type", "a", "root", "2", "c"], "made 0 3 3\n"),
+    (&["erase", "a", "root", "1", "1"], "made 0 4 4\n"),
+    (&["add", "a", "root", "0", "1"], "made 0 5 5\n"),
+    (&["add", "a", "root", "1", "#00ff"], "made 0 6 6\n"),
+    (&["add", "a", "root", "1", "=c"], "made 0 7 7\n"),
+    (&["shift", "a", "root", "0", "2"], "made 0 8 8\n"),
+    (&["set", "a", "root", "1", "#0a"], "made 0 9 9\n"),
+    (&["drop", "a", "root", "0"], "made 0 10 10\n"),
+    (
+        &["show", "a"],
+        "node 0 root\nkey \"a\" true\ntext \"acd\u{1f600}\"\nitem #0a\nitem 1\n",
+    ),
+];
+
+/// Does these over the file of one key. Gives the text of the first that isn't done, or prints another text.
+fn first_undone(
+    alloc: Global,
+    steps: &[(&[&str], &'static str)],
+) -> Result<Option<&'static str>, Fail> {
     let mut keeper = MemKeeper::new(alloc, &[], &[])?;
     keeper.put_file("a", ONE_KEY)?;
-    for &(line, text) in ENDS {
+    for &(line, text) in steps {
         let step = Step {
             line,
             status: Status::Done,
@@ -243,7 +277,21 @@ fn takes_the_ends(rt: HostRuntime) -> Result<(), Fail> {
             after: b"",
         };
         let (status, printed, _) = take(alloc, &mut keeper, &step)?;
-        assert_eq!(rt; (status, printed), (Status::Done, true), "{text}");
+        if status != Status::Done || !printed {
+            return Ok(Some(text));
+        }
     }
+    Ok(None)
+}
+
+#[test]
+fn takes_the_ends(rt: HostRuntime) -> Result<(), Fail> {
+    assert_eq!(rt; first_undone(rt.alloc(), ENDS)?, None);
+    Ok(())
+}
+
+#[test]
+fn edits_a_text_and_a_list(rt: HostRuntime) -> Result<(), Fail> {
+    assert_eq!(rt; first_undone(rt.alloc(), TEXT_AND_LIST)?, None);
     Ok(())
 }

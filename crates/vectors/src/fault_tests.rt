@@ -59,7 +59,7 @@ const FAULTS: &[(Faults<'_>, &[&str], Status, &str, &[u8])] = &[
     (LOAD_1, FOUND, Status::Done, "holds 0,1\n", NO_CHANGE),
     (
         LOAD_0,
-        &["add", "a", "root", "0", "true"],
+        &["trim", "a"],
         Status::NotBuilt { word: 0 },
         "",
         NO_CHANGE,

@@ -5,19 +5,19 @@ use Rattle.model.specs.Held.{wrong_references}
 use Rattle.model.specs.State.{Atom}
 use Rattle.model_laws.specs.Arrival.{Rises}
 use Rattle.op_grammar.specs.declared.head.Head.{Head}
-use Rattle.doc_store.specs.Documents.{HasNoRow, IsFormed, IsOfTree, Joins, parts_of}
+use Rattle.doc_store.specs.Documents.{HasNoRow, IsFormed, Joins, parts_of}
 use Rattle.doc_store.specs.Kept.{state_of}
 use Rattle.doc_store.specs.References.{IsFirstWrong}
 use Rattle.replica.specs.declared.fault.Misfit.TheVariants.{A4}
 use Rattle.outline_cmd.specs.declared.status.Status.TheVariants as s
-use Rattle.outline_cmd.proofs.BuildLaws.{formed_next, tree_next, wrong_told, none_wrong, rises_next, no_row_next, built_next}
+use Rattle.outline_cmd.proofs.BuildLaws.{formed_next, wrong_told, none_wrong, rises_next, no_row_next, built_next}
 use Rattle.outline_cmd.proofs.document.with_change.Goals as goal
 
 pub refs_known-requires : goal.refs_known-requires
 refs_known-requires c κs =
     let (h, is, next) = c.requires in
     let ops = sym c.ops.ensures in
-    ((refl, tt), (subst (AllByRecursion IsFormed) ops (formed_next h c.args.block.now next), subst (AllByRecursion (λ (a : Atom). IsOfTree a.operation)) ops (tree_next h c.args.block.now next)))
+    ((refl, tt), subst (AllByRecursion IsFormed) ops (formed_next h c.args.block.now next))
 
 pub returns-in-Some-clause-told : goal.returns-in-Some-clause-told
 returns-in-Some-clause-told c = λ h is.
@@ -41,7 +41,7 @@ apply-requires c κs =
           subst (λ l. wrong_references known 0 l ≡ []) (c.ops.ensures ∙ ops) none,
           (
             subst (λ l. Rises (parts_of l)) ops (rises_next h change next),
-            (subst (λ l. AllByRecursion (λ (a : Atom). HasNoRow known a.id) (parts_of l)) ops (no_row_next h change c.args.document is next), subst (AllByRecursion (λ (a : Atom). IsOfTree a.operation)) ops (tree_next h change next)),
+            subst (λ l. AllByRecursion (λ (a : Atom). HasNoRow known a.id) (parts_of l)) ops (no_row_next h change c.args.document is next),
           ),
         ),
       ),

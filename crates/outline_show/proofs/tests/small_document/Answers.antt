@@ -8,7 +8,7 @@ use Rattle.op_ids.specs.declared.OpId.{OpId}
 use Rattle.model.specs.Operation.{IsKey, new_node, put_key}
 use Rattle.model.specs.Value.{IsOpId, IsValue, Value, null, truth, integer, text, bytes}
 use Rattle.model.specs.State.{Atom, empty_state, right_of, row_cmp}
-use Rattle.doc_store.specs.Documents.{HasNoRow, IsFormed, IsOfTree, IsOwnId, parts_of}
+use Rattle.doc_store.specs.Documents.{HasNoRow, IsFormed, IsOwnId, parts_of}
 use Rattle.model_laws.specs.Arrival.{Rises}
 use Rattle.doc_store.specs.Kept.{state_of}
 use Rattle.outline_show.proofs.tests.small_document.Goals as goal
@@ -82,9 +82,6 @@ all_formed = (
   ),
 )
 
-all_of_tree : AllByRecursion (λ a. IsOfTree a.operation) listed
-all_of_tree = (tt, (tt, (tt, (tt, (tt, (tt, (tt, (tt, tt))))))))
-
 all_rise : Rises (parts_of listed)
 all_rise = (
   (refl, (refl, (refl, (refl, (refl, (refl, (refl, tt))))))),
@@ -98,10 +95,10 @@ all_rise = (
 )
 
 pub refs_known-requires : goal.refs_known-requires
-refs_known-requires c κs = ((refl, tt), (all_formed, all_of_tree))
+refs_known-requires c κs = ((refl, tt), all_formed)
 
 pub apply-requires : goal.apply-requires
 apply-requires c κs =
     let refer = rw c.in-None.is at c.in_ok-refs_known.ensures.first in
     let free : (id : OpId) → HasNoRow (state_of c.new-doc.result) id = λ id. subst (λ u. HasNoRow u id) (sym c.new-doc.ensures.state) (unused id) in
-    ((refl, tt), (all_formed, (refer, (all_rise, ((free _, (free _, (free _, (free _, (free _, (free _, (free _, (free _, tt)))))))), all_of_tree)))))
+    ((refl, tt), (all_formed, (refer, (all_rise, (free _, (free _, (free _, (free _, (free _, (free _, (free _, (free _, tt))))))))))))
