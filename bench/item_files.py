@@ -1,6 +1,8 @@
 """Files in five shapes, and what `outline items` is to print of each."""
 
-from large_files import DOCUMENT, MEMBERS
+import functools
+
+from large_files import DOCUMENT, MEMBERS, Shape
 from outline_files import (
     ARRAY, LARGEST_BODY, LARGEST_FILE, MAP, TAG, array, bundle, change, head, member_file, number, octets, operation, text,
 )
@@ -133,17 +135,7 @@ def one_text(size):
     return text(line * count), ['"' + ("x" * 63 + '\\"') * count + '"'], None
 
 
-# Of each shape its name and what makes its bytes, the lines that `items` prints, and those that `show` prints, if it shows it.
-ITEM_SHAPES = [
-    ("heads alone", heads_alone),
-    ("a bundle of all kinds", all_kinds),
-    ("sixteen deep", nested),
-    ("very wide", wide),
-    ("one text", one_text),
-]
-
-
-def make_items(size, shape, folder):
+def make_items(shape, size, folder):
     """Makes the files `made`, `noted` and, where it is shown, `shown` in the folder."""
     made, notes, shown = shape(size)
     with open(f"{folder}/made", "wb") as file:
@@ -153,3 +145,15 @@ def make_items(size, shape, folder):
     if shown:
         with open(f"{folder}/shown", "w", encoding="utf-8") as file:
             file.writelines(line + "\n" for line in shown)
+
+
+ITEM_SHAPES = [
+    Shape(name, functools.partial(make_items, shape))
+    for name, shape in (
+        ("heads alone", heads_alone),
+        ("a bundle of all kinds", all_kinds),
+        ("sixteen deep", nested),
+        ("very wide", wide),
+        ("one text", one_text),
+    )
+]

@@ -1,8 +1,9 @@
-"""Large member files of puts in four shapes: one short put per change or many, over ten keys or over keys that all differ."""
+"""What shapes of large files are, and four of them: one short put per change or many, over ten keys or over keys that all differ."""
 
 import functools
 import os
 import sys
+from typing import Callable, NamedTuple
 
 from outline_files import LARGEST_BODY, LARGEST_FILE, LARGEST_WIDTH, change, member_file, put
 
@@ -10,6 +11,16 @@ MIB = 1_048_576
 DOCUMENT = bytes(range(16))
 MEMBERS = [0, 1]
 LETTERS = "abcdefghijklmnopqrstuvwxyzABCDEFGHIJKLMNOPQRSTUVWXYZ0123456789"
+
+
+class Shape(NamedTuple):
+    """A name, what makes the files of a size in a folder, and the most memory for each byte of a file and the longest time of
+    `show`, in times that of `sha256sum`, that such files are to take."""
+
+    name: str
+    make: Callable
+    most_memory: int = 64
+    most_of_sum: float = float("inf")
 
 
 def one_of_ten(place):
@@ -31,8 +42,9 @@ class Changes:
     def __init__(self, size):
         self.room, self.made = min(size, LARGEST_FILE) - 200, []
 
-    def is_open(self):
-        return self.room > 100
+    def is_open(self, needed=100):
+        """Whether there is room for a change of so many bytes."""
+        return self.room > needed
 
     def fits(self, body):
         """Whether a body of this length leaves room for one more operation."""
@@ -42,21 +54,44 @@ class Changes:
         """The time of the next change, which is its number too."""
         return len(self.made) + 1
 
-    def add(self, operations):
-        self.made.append(change(0, self.time(), self.time(), len(MEMBERS), operations))
+    def next(self, operations, width=None):
+        return change(0, self.time(), self.time(), len(MEMBERS), operations, width)
+
+    def add(self, operations, width=None):
+        self.made.append(self.next(operations, width))
         self.room -= len(self.made[-1])
 
     def write(self, folder, lines):
-        """Writes three files: `made`; `shown`, what `show made` is to print; `after`, what `put made root new 1` is to make of it."""
+        """Writes `made`, and `shown`, what `show made` is to print; and the edit that puts a key on the root."""
         with open(f"{folder}/shown", "w", encoding="utf-8") as file:
             file.writelines(lines)
-        self.write_file(f"{folder}/made")
-        self.add([put("new", 1)])
-        self.write_file(f"{folder}/after")
+        write_file(f"{folder}/made", self.made)
+        self.write_edit(folder, "put edited root new 1", put("new", 1))
 
-    def write_file(self, path):
-        with open(path, "wb") as file:
-            file.write(member_file(DOCUMENT, len(MEMBERS), MEMBERS, self.made))
+    def write_edit(self, folder, words, made):
+        """Of an edit of the file, which makes this operation: its words in `COMMAND.words`, and what it is to make of the file in
+        `COMMAND.after`."""
+        command = words.split()[0]
+        with open(f"{folder}/{command}.words", "w", encoding="utf-8") as file:
+            file.write(words)
+        write_file(f"{folder}/{command}.after", self.made + [self.next([made])])
+
+
+def write_file(path, changes):
+    with open(path, "wb") as file:
+        file.write(member_file(DOCUMENT, len(MEMBERS), MEMBERS, changes))
+
+
+def make_operations(next_operation, lines, size, folder):
+    """Operations that are made one after the other, each with its id, as many in a change as fit."""
+    changes = Changes(size)
+    while changes.is_open():
+        made, body = [], 0
+        while len(made) < LARGEST_WIDTH and changes.fits(body):
+            made.append(next_operation((changes.time(), 0, len(made))))
+            body += len(made[-1])
+        changes.add(made)
+    changes.write(folder, lines())
 
 
 def make_puts(key_of, most, size, folder):
@@ -74,9 +109,8 @@ def make_puts(key_of, most, size, folder):
     changes.write(folder, ["node 0 root\n"] + [f'key "{key}" {shown[key]}\n' for key in sorted(shown)])
 
 
-# Of each shape its name, and what makes its files of a size in a folder.
 PUT_SHAPES = [
-    (f"{puts}, {keys}", functools.partial(make_puts, key_of, most))
+    Shape(f"{puts}, {keys}", functools.partial(make_puts, key_of, most))
     for keys, key_of in (("ten keys", one_of_ten), ("keys that differ", one_of_its_own))
     for puts, most in (("one put a change", 1), ("many puts a change", LARGEST_WIDTH))
 ]

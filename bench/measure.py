@@ -1,8 +1,10 @@
 """Times programs and weighs their memory, and counts what holds of that.
 
-Times are the processor's, in user and system mode, the best of three runs; so other work on the machine hardly counts.
+Times are the processor's, in user and system mode, the best of three runs, or of as many as take ten seconds together; so other
+work on the machine hardly counts.
 """
 
+import argparse
 import os
 import subprocess
 import sys
@@ -11,28 +13,39 @@ import tempfile
 from large_files import DOCUMENT, MEMBERS, MIB
 from outline_files import member_file
 
+RUNS = 3
+ENOUGH_SECONDS = 10
 TOP = os.path.dirname(os.path.dirname(os.path.realpath(__file__)))
 
 
 def measure(words, folder, prepare=lambda: None):
-    """Runs the words three times, each after what `prepare` does: the least seconds, the most memory in bytes, the last
+    """Runs the words some times, each after what `prepare` does: the least seconds, the most memory in bytes, the last
     status. The last print is in `printed`."""
-    seconds, memory, status = float("inf"), 0, 0
-    for _ in range(3):
+    times, memory, status = [], 0, 0
+    while len(times) < RUNS and sum(times) < ENOUGH_SECONDS:
         prepare()
         with open(f"{folder}/printed", "wb") as printed:
             run = subprocess.Popen(words, cwd=folder, stdin=subprocess.DEVNULL, stdout=printed)
             _, ended, used = os.wait4(run.pid, 0)
         run.returncode = status = os.waitstatus_to_exitcode(ended)
-        seconds = min(seconds, used.ru_utime + used.ru_stime)
+        times.append(used.ru_utime + used.ru_stime)
         memory = max(memory, used.ru_maxrss * 1024)
-    return seconds, memory, status
+    return min(times), memory, status
 
 
-def program():
-    """The program to measure: the one that is given, or what ./outline becomes, which builds it first where that is needed."""
-    if len(sys.argv) > 1:
-        return os.path.abspath(sys.argv[1])
+def asked(about, shapes):
+    """The program to measure, and the shapes: all of these, or the one that is asked for."""
+    words = argparse.ArgumentParser(description=about, formatter_class=argparse.RawDescriptionHelpFormatter)
+    names = [it.name for it in shapes]
+    words.add_argument("--shape", metavar="NAME", choices=names, help=f"measure this shape alone: {'; '.join(names)}")
+    words.add_argument("program", nargs="?", help="the program to measure; without it, what ./outline builds")
+    given = words.parse_args()
+    outline = os.path.abspath(given.program) if given.program else built()
+    return outline, [it for it in shapes if given.shape in (None, it.name)]
+
+
+def built():
+    """What ./outline becomes, which builds it first where that is needed."""
     with tempfile.TemporaryDirectory() as folder:
         with open(f"{folder}/empty", "wb") as file:
             file.write(member_file(DOCUMENT, len(MEMBERS), MEMBERS, []))
@@ -46,6 +59,11 @@ def print_least_memory():
     with tempfile.TemporaryDirectory() as folder:
         _, least, _ = measure(["true"], folder)
     print(f"(x sum: times sha256sum's time. A run of `true` is told to take {least / MIB:.0f} MiB here, so less can't be seen.)")
+
+
+def is_little(memory, length, most):
+    """Whether memory is less than so many times a length; a run takes some whatever the file is."""
+    return memory < most * length or memory < 16 * MIB
 
 
 class Tally:

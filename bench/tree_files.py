@@ -2,8 +2,8 @@
 
 import random
 
-from large_files import Changes
-from outline_files import LARGEST_WIDTH, operation
+from large_files import Shape, make_operations
+from outline_files import operation
 
 ROOT = (0, 0, 0)
 LEFT, RIGHT = 0, 1
@@ -23,18 +23,6 @@ def node_lines(children):
     return lines
 
 
-def make_nodes(next_operation, children_of, size, folder):
-    """Operations that are made one after the other, each with its id, as many in a change as fit."""
-    changes = Changes(size)
-    while changes.is_open():
-        made, body = [], 0
-        while len(made) < LARGEST_WIDTH and changes.fits(body):
-            made.append(next_operation((changes.time(), 0, len(made))))
-            body += len(made[-1])
-        changes.add(made)
-    changes.write(folder, node_lines(children_of()))
-
-
 def make_chain(size, folder):
     """Each node below the one before."""
     children, last = {}, [ROOT]
@@ -44,7 +32,7 @@ def make_chain(size, folder):
         children[parent] = [node]
         return operation(0, parent, ROOT, RIGHT)
 
-    make_nodes(next_operation, lambda: children, size, folder)
+    make_operations(next_operation, lambda: node_lines(children), size, folder)
 
 
 def make_siblings(size, folder):
@@ -56,7 +44,7 @@ def make_siblings(size, folder):
         nodes.append(node)
         return operation(0, ROOT, after, RIGHT)
 
-    make_nodes(next_operation, lambda: {ROOT: nodes}, size, folder)
+    make_operations(next_operation, lambda: node_lines({ROOT: nodes}), size, folder)
 
 
 class RandomTree:
@@ -109,12 +97,11 @@ class RandomTree:
 
 def make_random(size, folder):
     tree = RandomTree()
-    make_nodes(tree.next_operation, tree.children, size, folder)
+    make_operations(tree.next_operation, lambda: node_lines(tree.children()), size, folder)
 
 
-# Of each shape its name, and what makes its files of a size in a folder.
 TREE_SHAPES = [
-    ("a chain of nodes", make_chain),
-    ("one parent of all nodes", make_siblings),
-    ("a random tree, moved about", make_random),
+    Shape("a chain of nodes", make_chain),
+    Shape("one parent of all nodes", make_siblings),
+    Shape("a random tree, moved about", make_random),
 ]
