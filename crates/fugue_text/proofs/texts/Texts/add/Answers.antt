@@ -21,7 +21,6 @@ add-requires-clause-fresh c =
     let u = c.in-Some.text.now in
     let there : lookup (key_eq n) es ≡ Some u = sym c.in-Some.ensures.value in
     let has = laws.has_found es se n u there in
-    let a : Anchor = record { on = c.args.anchor; side = c.args.side } in
     laws.fresh_row es n u has c.args.self.now c.self.view_is c.args.id c.requires.new
 
 pub add-requires-clause-hangs : goal.add-requires-clause-hangs
@@ -38,16 +37,10 @@ add-requires-clause-hangs c =
 pub invariant_of-self : goal.invariant_of-self
 invariant_of-self c =
     let es = c.self.inside.nodes.entries in
-    let se = c.get_mut.ensures.ordered in
     let n = c.args.node in
-    let u = c.in-Some.text.now in
-    let there : lookup (key_eq n) es ≡ Some u = sym c.in-Some.ensures.value in
-    let has = laws.has_found es se n u there in
-    let a : Anchor = record { on = c.args.anchor; side = c.args.side } in
     let v = c.add.new.self in
     let fs = (c.get_mut.follows.lender v).entries in
     let held = c.get_mut.follows.holds v in
-    let updates = (held.3 (ap is_some there)).0 in
     let kept : AreTrees fs = subst (λ (xs : Nodes). AreTrees xs) (sym held.0) (laws.trees_set es n v c.self.invariant c.add.ensures.tree) in
     kept
 
@@ -74,7 +67,6 @@ returns-in-Some-clause-err c =
     let u = c.in-Some.text.now in
     let there : lookup (key_eq n) es ≡ Some u = sym c.in-Some.ensures.value in
     let has = laws.has_found es se n u there in
-    let a : Anchor = record { on = c.args.anchor; side = c.args.side } in
     let v = c.add.new.self in
     let fs = (c.get_mut.follows.lender v).entries in
     let held = c.get_mut.follows.holds v in
@@ -84,16 +76,10 @@ returns-in-Some-clause-err c =
 pub returns-in-Some-clause-texts : goal.returns-in-Some-clause-texts
 returns-in-Some-clause-texts c =
     let es = c.self.inside.nodes.entries in
-    let se = c.get_mut.ensures.ordered in
     let n = c.args.node in
-    let u = c.in-Some.text.now in
-    let there : lookup (key_eq n) es ≡ Some u = sym c.in-Some.ensures.value in
-    let has = laws.has_found es se n u there in
-    let a : Anchor = record { on = c.args.anchor; side = c.args.side } in
     let v = c.add.new.self in
     let fs = (c.get_mut.follows.lender v).entries in
     let held = c.get_mut.follows.holds v in
-    let updates = (held.3 (ap is_some there)).0 in
     let kept : AreTrees fs = subst (λ (xs : Nodes). AreTrees xs) (sym held.0) (laws.trees_set es n v c.self.invariant c.add.ensures.tree) in
     laws.texts_are fs held.4 kept
 
@@ -111,7 +97,6 @@ add-requires-2-clause-hangs c =
     let none : lookup (key_eq n) old.entries ≡ None = ap (λ (m : BTreeMap OpId TextRows). lookup (key_eq n) m.entries) same ∙ sym c.in_default.ensures.value in
     let has = laws.has_none old.entries ordered n u none c.new-text.ensures in
     let view : table_of old.entries ≡ c.args.self.now = ap (λ (m : BTreeMap OpId TextRows). table_of m.entries) same ∙ c.self.view_is in
-    let kept : AreTrees old.entries = subst (λ (m : BTreeMap OpId TextRows). AreTrees m.entries) (sym same) c.self.invariant in
     let a : Anchor = record { on = c.args.anchor; side = c.args.side } in
     laws.hangs_well old.entries n u has c.args.self.now view c.args.id a c.requires.hangs
 
@@ -127,15 +112,9 @@ returns-in_err-insert-clause-texts c =
 pub invariant_of-self-2 : goal.invariant_of-self-2
 invariant_of-self-2 c =
     let n = c.args.node in
-    let u = c.new-text.result in
     let old = c.get_mut.follows.lender-at-none in
     let same : old ≡ c.self.inside.nodes = c.get_mut.follows.holds-at-none in
-    let ordered : laws.Rising old.entries = subst (λ (m : BTreeMap OpId TextRows). laws.Rising m.entries) (sym same) c.get_mut.ensures.ordered in
-    let none : lookup (key_eq n) old.entries ≡ None = ap (λ (m : BTreeMap OpId TextRows). lookup (key_eq n) m.entries) same ∙ sym c.in_default.ensures.value in
-    let has = laws.has_none old.entries ordered n u none c.new-text.ensures in
-    let view : table_of old.entries ≡ c.args.self.now = ap (λ (m : BTreeMap OpId TextRows). table_of m.entries) same ∙ c.self.view_is in
     let kept : AreTrees old.entries = subst (λ (m : BTreeMap OpId TextRows). AreTrees m.entries) (sym same) c.self.invariant in
-    let a : Anchor = record { on = c.args.anchor; side = c.args.side } in
     let v = c.add-2.new.self in
     let now : AreTrees c.insert.new.self.entries = subst (λ (xs : Nodes). AreTrees xs) (sym c.in_ok-insert.ensures.entries) (laws.trees_insert old.entries n v kept c.in_ok-add.ensures.tree) in
     now
@@ -150,7 +129,6 @@ returns-clause-ok c =
     let none : lookup (key_eq n) old.entries ≡ None = ap (λ (m : BTreeMap OpId TextRows). lookup (key_eq n) m.entries) same ∙ sym c.in_default.ensures.value in
     let has = laws.has_none old.entries ordered n u none c.new-text.ensures in
     let view : table_of old.entries ≡ c.args.self.now = ap (λ (m : BTreeMap OpId TextRows). table_of m.entries) same ∙ c.self.view_is in
-    let kept : AreTrees old.entries = subst (λ (m : BTreeMap OpId TextRows). AreTrees m.entries) (sym same) c.self.invariant in
     let a : Anchor = record { on = c.args.anchor; side = c.args.side } in
     let v = c.add-2.new.self in
     laws.texts_put old.entries c.insert.new.self.entries c.in_ok-insert.ensures.was_ordered c.in_ok-insert.ensures.ordered n u v c.in_ok-insert.ensures.updates.0 has c.args.id (letter_at a c.args.letter) c.in_ok-add.ensures.ok
@@ -159,15 +137,9 @@ returns-clause-ok c =
 pub returns-clause-texts : goal.returns-clause-texts
 returns-clause-texts c =
     let n = c.args.node in
-    let u = c.new-text.result in
     let old = c.get_mut.follows.lender-at-none in
     let same : old ≡ c.self.inside.nodes = c.get_mut.follows.holds-at-none in
-    let ordered : laws.Rising old.entries = subst (λ (m : BTreeMap OpId TextRows). laws.Rising m.entries) (sym same) c.get_mut.ensures.ordered in
-    let none : lookup (key_eq n) old.entries ≡ None = ap (λ (m : BTreeMap OpId TextRows). lookup (key_eq n) m.entries) same ∙ sym c.in_default.ensures.value in
-    let has = laws.has_none old.entries ordered n u none c.new-text.ensures in
-    let view : table_of old.entries ≡ c.args.self.now = ap (λ (m : BTreeMap OpId TextRows). table_of m.entries) same ∙ c.self.view_is in
     let kept : AreTrees old.entries = subst (λ (m : BTreeMap OpId TextRows). AreTrees m.entries) (sym same) c.self.invariant in
-    let a : Anchor = record { on = c.args.anchor; side = c.args.side } in
     let v = c.add-2.new.self in
     let now : AreTrees c.insert.new.self.entries = subst (λ (xs : Nodes). AreTrees xs) (sym c.in_ok-insert.ensures.entries) (laws.trees_insert old.entries n v kept c.in_ok-add.ensures.tree) in
     laws.texts_are c.insert.new.self.entries c.in_ok-insert.ensures.ordered now

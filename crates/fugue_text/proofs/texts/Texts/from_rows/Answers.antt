@@ -14,9 +14,6 @@ add-requires-clause-new c =
     let i = c.loop-row.row-index in
     let l = c.loop-row-test.true in
     let r = get_or rows i laws.no_text_row in
-    let full : Table = fin.from_entries (text_entries rows) in
-    let a : Anchor = record { on = r.anchor; side = r.side } in
-    let x : Character = record { at = a; character = r.character; dead = r.dead } in
     ap (λ (t : Table). fin.get t (r.node, r.id)) c.loop-row.invariant ∙ next_fresh text_entry rows i laws.no_text_row l c.requires.rise
 
 pub add-requires-clause-no_head : goal.add-requires-clause-no_head
@@ -54,7 +51,6 @@ loop-row-preserved c =
     let i = c.loop-row.row-index in
     let l = c.loop-row-test.true in
     let r = get_or rows i laws.no_text_row in
-    let full : Table = fin.from_entries (text_entries rows) in
     let a : Anchor = record { on = r.anchor; side = r.side } in
     let x : Character = record { at = a; character = r.character; dead = r.dead } in
     c.in_ok-add.ensures.ok ∙ ap (λ (t : Table). fin.insert t (r.node, r.id) x) c.loop-row.invariant ∙ sym (next_now text_entry rows i laws.no_text_row l c.requires.rise)
