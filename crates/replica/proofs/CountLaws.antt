@@ -30,16 +30,16 @@ counted_none h = record { each = length-replicate h.doc.n 0; are = λ other m lt
 
 -- ---- of one more
 
-last_pushed : {X : Type 0} (o : Option X) (xs : List X) (x : X) → last_or o (xs ++ x ∷ []) ≡ Some x
+pub last_pushed : {X : Type 0} (o : Option X) (xs : List X) (x : X) → last_or o (xs ++ x ∷ []) ≡ Some x
 last_pushed o [] x = refl
 last_pushed o (y ∷ ys) x = last_pushed (Some y) ys x
 
 module _ (kept : List Change) (c : Change) where
   -- of those that pass a test
-  kept_pushed : (p : Change → Bool) → p c ≡ true → filter p (kept ++ c ∷ []) ≡ filter p kept ++ c ∷ []
+  pub kept_pushed : (p : Change → Bool) → p c ≡ true → filter p (kept ++ c ∷ []) ≡ filter p kept ++ c ∷ []
   kept_pushed p passes = filter-append p kept (c ∷ []) ∙ rw passes refl
 
-  not_pushed : (p : Change → Bool) → p c ≡ false → filter p (kept ++ c ∷ []) ≡ filter p kept
+  pub not_pushed : (p : Change → Bool) → p c ≡ false → filter p (kept ++ c ∷ []) ≡ filter p kept
   not_pushed p fails = filter-append p kept (c ∷ []) ∙ rw fails (append-nil (filter p kept))
 
   pub last_own : (m : ℕ) → c.member ≡ m → last_change (kept ++ c ∷ []) m ≡ Some c

@@ -9,5 +9,6 @@ pub mod OpeningLaws
 pub mod CountLaws
 pub mod ScanLaws
 pub mod PartLaws
+pub mod BundleLaws
 pub mod WriteLaws
 pub mod AnswerLaws

@@ -1,16 +1,15 @@
 -- Files with more changes, and new ones.
-use Rattle.std.proofs.Common.{◌≡◌, ◌≢◌, ℕ, zero, suc, ◌+◌, ◌^◌, ◌<◌, ◌≤◌, List, [], ◌∷◌, ◌++◌, length, take, get_or, refl, sym, ap, subst, ◌∙◌, append_assoc, zero-add, add-one, arith, inl}
+use Rattle.std.proofs.Common.{◌≡◌, ◌≢◌, ℕ, zero, suc, ◌+◌, ◌≤◌, List, [], ◌∷◌, ◌++◌, length, take, get_or, refl, sym, ap, subst, ◌∙◌, append_assoc, zero-add, add-one, arith}
 use Rattle.std.specs.Prelude.{Some, slice_get}
 use Rattle.std.specs.List.{AllByRecursion}
-use Rattle.std.proofs.lemmas.List.{length-append, append-nil, map-id}
+use Rattle.std.proofs.lemmas.List.{append-nil, map-id}
 use Rattle.std.proofs.lemmas.List.FromFn.{map-range_with_len_more, fill_by_all, length-map-range_with_len, get_or-map-range_with_len}
 use Rattle.cbor_det.specs.Head.{IsBytes}
 use Rattle.model.specs.Base.{members}
-use Rattle.model.specs.Change.{Change, IsChange, change_item, EachAfter}
+use Rattle.model.specs.Change.{Change, EachAfter}
 use Rattle.model.specs.Command.{new_file}
-use Rattle.model.specs.File.{Header, header_of, IsHeader, File, IsFile, IsLater, IsNextBehind, BaseIsReached, based}
+use Rattle.model.specs.File.{IsFile}
 use Rattle.model_laws.proofs.ChangeLaws.{members_below, members_rise}
-use Rattle.file_laws.proofs.FrontLaws.{IsFront, front_goes}
 use Rattle.replica.specs.Counts.{IsCounted, count_behind, counts_behind}
 use Rattle.replica.specs.declared.head.FileHead.{FileHead}
 use Rattle.replica.proofs.EmptyLaws.{empty_is_base}
@@ -43,59 +42,6 @@ founded_is_file id n size fits some few = record {
   numbered = tt;
   reached = empty_is_reached n [];
 }
-
--- ---- one more kept change
-
--- a header of another number of kept changes
-kept_header : (h : Header) (count : ℕ) → IsHeader h → count < 2 ^ 32 → IsHeader (record h { kept = count })
-kept_header h count k most = record {
-  version = k.version;
-  document_bytes = k.document_bytes;
-  document_length = k.document_length;
-  members_some = k.members_some;
-  members_most = k.members_most;
-  mine_rises = k.mine_rises;
-  mine_below = k.mine_below;
-  kept_most = most;
-  waiting_most = k.waiting_most;
-  others_hold_none = k.others_hold_none;
-}
-
-module _ (f : File) (c : Change) (is : IsFile f) (change : IsChange f.members c) (later : IsLater f.kept c) (next : IsNextBehind f.base f.kept c) (room : length f.kept + 1 < 2 ^ 32) where
-  more_kept : List Change
-  more_kept = f.kept ++ c ∷ []
-
-  wider : Header
-  wider = record (header_of f) { kept = length f.kept + 1 }
-
-  wider_front : IsFront (based wider f.base (f.kept ++ c ∷ []) [])
-  unfolding wider
-  wider_front =
-      front_goes (based wider f.base f.kept []) (change_item c) (based wider f.base (f.kept ++ c ∷ []) [])
-      (record {
-        header = kept_header (header_of f) (length f.kept + 1) is.header room;
-        base = is.base;
-        kept = is.kept;
-        waiting = tt;
-        kept_in_order = is.kept_in_order;
-        waiting_in_order = tt;
-        numbered = is.numbered;
-        place = inl (refl, omega arith);
-      })
-      (inl (c, record { none = refl; more = omega arith; item = refl; change = change; later = later; next = next }, refl))
-
-  pub more_is_file : BaseIsReached f.members f.base (f.kept ++ c ∷ []) → IsFile (record f { kept = f.kept ++ c ∷ [] })
-  unfolding wider
-  more_is_file reached = record {
-    header = kept_header (header_of f) (length (f.kept ++ c ∷ [])) is.header (omega (arith, length-append f.kept (c ∷ [])));
-    base = is.base;
-    kept = wider_front.kept;
-    waiting = is.waiting;
-    kept_in_order = wider_front.kept_in_order;
-    waiting_in_order = is.waiting_in_order;
-    numbered = wider_front.numbered;
-    reached = reached;
-  }
 
 -- ---- kept changes, one by one
 

@@ -1,16 +1,16 @@
 //! The parts of a file.
 
-ghost use Rattle.std.specs.Prelude.{◌≡◌, ◌≢◌, ◌≤◌, ◌<◌, ◌+◌, ◌^◌, ◌++◌, ◌∷◌, [], length, IfOk};
-ghost use Rattle.model.specs.Change.{IsChange};
-ghost use Rattle.model.specs.Command.{new_file};
-ghost use Rattle.model.specs.File.{bundle, IsFile, IsLater, IsNextBehind};
+ghost use Rattle.std.specs.Prelude.{◌≡◌, ◌≢◌, ◌≤◌, length, IfOk};
+ghost use Rattle.model.specs.Command.{new_file, stored_bundle};
+ghost use Rattle.model.specs.File.{bundle, IsFile};
 ghost use Rattle.replica.specs.Heads.{head_of};
 ghost use Rattle.replica.specs.Counts.{counts_behind, time_of_last};
 ghost use Rattle.replica.specs.Scanning.{HasEmptyBase};
 
 use crate::changes::last_head;
-use crate::head::{DocRef, FileHead, MEMBER_FILE, all_members};
-use lazy_blocks::{Block, Shelf};
+use crate::head::{BUNDLE, DocRef, FileHead, MEMBER_FILE, all_members};
+use crate::members::Members;
+use lazy_blocks::Shelf;
 use std::alloc::{AllocError, Global};
 use std::marker::Model;
 use version_vector::Vector;
@@ -121,21 +121,36 @@ impl<'a> FileParts<'a> {
         }
     }
 
-    /// The file with one more kept change, at the end. A refusal for want of memory hands nothing back.
-    pub fn keep(self, block: Block<'a>) -> Result<FileParts<'a>, AllocError>
-        requires is { IsChange self.members block }
-        requires later { IsLater self.kept block }
-        requires next { IsNextBehind self.base self.kept block }
-        requires room { length self.kept + 1 < 2 ^ 32 }
-        ensures { IfOk result (λ parts. parts ≡ record self.entry { kept = self.entry.kept ++ block.entry ∷ [] }) }
+    /// The file with these changes in place of its own.
+    pub fn with_changes(self, kept: Shelf<'a>, waiting: Shelf<'a>) -> FileParts<'a>
+        requires { IsFile (record self { kept = kept; waiting = waiting }) }
+        ensures { result ≡ record self.entry { kept = kept.entry; waiting = waiting.entry } }
     {
-        let FileParts {
-            mut head,
-            mut kept,
-            waiting,
-        } = self;
-        kept.push(block)?;
-        head.kept += 1;
-        Ok(FileParts::of(head, kept, waiting))
+        let mut head = self.head;
+        head.kept = kept.len() as u32;
+        head.waiting = waiting.len() as u32;
+        FileParts::of(head, kept, waiting)
+    }
+
+    /// A bundle of the kept changes that the vector doesn't count. Looks at heads alone.
+    pub fn bundle_since(&self, alloc: Global, vector: &Vector) -> Result<FileParts<'a>, AllocError>
+        requires { length vector.now ≡ self.now.members }
+        ensures { IfOk result (λ parts. parts ≡ stored_bundle self.now vector.now) }
+    {
+        let mut kept = Shelf::new(alloc);
+        'kept: for i in 0..self.kept.len() {
+            let block = self.kept.at(i);
+            if block.head().number > vector.get(block.head().member) {
+                kept.push(block.copy())?;
+            }
+        }
+        let head = FileHead {
+            kind: BUNDLE,
+            doc: self.head.doc,
+            mine: Members::new(alloc),
+            kept: kept.len() as u32,
+            waiting: 0,
+        };
+        Ok(FileParts::of(head, kept, Shelf::new(alloc)))
     }
 }

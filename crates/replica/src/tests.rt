@@ -1,10 +1,9 @@
 use super::*;
-use crate::changes::check_kept;
-use cbor_det::{CborFault, Cursor, Why};
-use lazy_blocks::Block;
+use cbor_det::{CborFault, Why};
 use op_grammar::Rule;
-use std::alloc::{AllocError, Global};
+use std::alloc::Global;
 use std::test::Fail;
+use version_vector::Vector;
 
 /// A document of one member.
 const ONE: DocRef = DocRef { id: [7; 16], n: 1 };
@@ -102,40 +101,21 @@ fn members_are_taken_out(rt: HostRuntime) -> Result<(), Fail> {
     Ok(())
 }
 
-/// The change of number 2 and time 6 that follows the kept one, without operations.
-const NEXT: &[u8] = b"\x87\x00\x02\x06\x81\x01\x00\x00\x40";
-
-/// The file with the change that the bytes spell as one more kept change, if it may be.
-fn kept_next<'a>(
-    alloc: Global,
-    parts: FileParts<'a>,
-    bytes: &'a [u8],
-) -> Result<Option<FileParts<'a>>, AllocError> {
-    if parts.head().kind == BUNDLE || parts.kept().len() > 1000 || bytes.len() > 200 {
-        return Ok(None);
-    }
-    let Some(block) = Block::take(alloc, &mut Cursor::new(bytes), parts.head().doc.n) else {
-        return Ok(None);
-    };
-    let counts = parts.counts(alloc);
-    match check_kept(&block, parts.head(), parts.kept(), &counts) {
-        Ok(()) => Ok(Some(parts.keep(block)?)),
-        Err(_) => Ok(None),
-    }
-}
-
 #[test]
-fn a_change_is_kept(rt: HostRuntime) -> Result<(), Fail> {
+fn a_bundle_has_what_is_not_counted(rt: HostRuntime) -> Result<(), Fail> {
     let alloc = rt.alloc();
+    let mut vector = Vector::zero(alloc, 1);
     match scan_file(alloc, KEPT) {
-        Ok(parts) => match kept_next(alloc, parts, NEXT)? {
-            Some(more) => {
-                assert_eq!(rt; more.last_time(), 6);
-                assert_eq!(rt; more.kept().len(), 2);
-                assert_eq!(rt; more.head().kept, 2);
+        Ok(parts) => {
+            if parts.head().doc.n == 1 {
+                let all = parts.bundle_since(alloc, &vector)?;
+                assert_eq!(rt; all.head().kind, BUNDLE);
+                assert_eq!(rt; all.kept().len(), 1);
+                vector.raise(0, 1);
+                let none = parts.bundle_since(alloc, &vector)?;
+                assert_eq!(rt; none.kept().len(), 0);
             }
-            None => assert!(rt; false),
-        },
+        }
         Err(_) => assert!(rt; false),
     }
     Ok(())
