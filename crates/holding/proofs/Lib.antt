@@ -1,0 +1,6 @@
+pub mod PlacedLaws
+pub mod FirstLaws
+pub mod OperationLaws
+pub mod GrowLaws
+pub mod HoldLaws
+pub mod JoinLaws

@@ -1,0 +1,49 @@
+-- What is held, in memory, of a base and the changes kept behind it.
+use Rattle.std.specs.Prelude.{◌≡◌, ℕ, ◌+◌, ◌*◌, ◌<◌, ◌≤◌, List, [], length, unwrap_or}
+use Rattle.std.specs.BTreeMap.{is_at}
+use Rattle.std.specs.List.{AllByRecursion}
+use Rattle.std.specs.Map.{lookup}
+use Rattle.std.specs.Ordering.{nat_cmp, on, then_cmp}
+use Rattle.std.specs.declared.cmp.Ordering.{Ordering}
+use Rattle.model.specs.Base.{Base, time_of}
+use Rattle.model.specs.Change.{Change, Name, IsChange, AreInTimeOrder}
+use Rattle.model.specs.Held.{held_behind, wrong_references}
+use Rattle.model.specs.State.{Atom, after, atoms, by_ids}
+use Rattle.outside.specs.Work.{Work}
+use Rattle.arrival_laws.specs.Document.{ComesInTurn}
+use Rattle.tree_log.specs.Moves.{later_count}
+use Rattle.tree_log.specs.Steps.{moves_of}
+use Rattle.doc_store.specs.Documents.{IsDocument}
+use Rattle.stability.specs.Rows.{rows_in}
+use Rattle.holding.specs.declared.holding.Holding.{Holding}
+
+-- the order of names, by member and then by number
+abbrev pub name_cmp : ℕ × ℕ → ℕ × ℕ → Ordering
+name_cmp = then_cmp (on (λ k. k.0) nat_cmp) (on (λ k. k.1) nat_cmp)
+
+-- the time of the change of this name in the entries, or 0
+abbrev pub time_in : List ((ℕ × ℕ) × ℕ) → Name → ℕ
+time_in entries name = unwrap_or (lookup (is_at (name_cmp (name.member, name.number))) entries) 0
+
+-- The members' rows, the times and the document are those of the base with the changes behind it. These are in order, and none has a
+-- greater number than its member's row.
+pub record Holds (h : Holding) (n : ℕ) (b : Base) (kept : List Change) : Type 0 where
+  pub few : n ≤ 32
+  pub rows : h.fronts ≡ rows_in n (held_behind b kept)
+  pub times : (name : Name) → time_in h.times.entries name ≡ time_of kept name
+  pub document : IsDocument h.document b.state (atoms kept)
+  pub in_order : AreInTimeOrder kept
+  pub counted : AllByRecursion (λ c. c.number ≤ ((held_behind b kept).row c.member).count) kept
+
+-- A change that may join: it is the next of its member and later than its last, it refers to nothing wrongly, and its operations
+-- may come to the document of those that are kept.
+pub record MayJoin (n : ℕ) (b : Base) (kept : List Change) (c : Change) : Type 0 where
+  pub is_change : IsChange n c
+  pub next : c.number ≡ ((held_behind b kept).row c.member).count + 1
+  pub later : ((held_behind b kept).row c.member).last < c.time
+  pub refers : wrong_references (after b.state (atoms kept)) 0 (by_ids c.time c.member 0 c.operations) ≡ []
+  pub comes : ComesInTurn b.state kept c
+
+-- At most twice the moves of the list that come after one of the new ones, and the new ones, were made.
+abbrev pub MovesMost : Work → Work → List Atom → List Atom → Type 0
+MovesMost old new list ops = new.moves ≤ old.moves + (2 * later_count (moves_of list) (moves_of ops) + length (moves_of ops))
