@@ -1,0 +1,14 @@
+pub mod AckLaws
+pub mod BuildLaws
+pub mod ClockLaws
+pub mod DeliveredLaws
+pub mod JudgeLaws
+pub mod LedgerLaws
+pub mod LineLaws
+pub mod MadeLaws
+pub mod PlanLaws
+pub mod ReceiveLaws
+pub mod SettleLaws
+pub mod SoundLaws
+pub mod WaitingLaws
+pub mod WriteLaws

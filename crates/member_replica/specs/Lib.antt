@@ -1,0 +1,7 @@
+pub mod Inside
+pub mod Replicas
+pub mod Making
+pub mod Makings
+pub mod Reports
+pub mod Ledgers
+pub mod Receiving

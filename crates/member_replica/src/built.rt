@@ -1,0 +1,107 @@
+//! The parts of a file with what they hold.
+
+ghost use Rattle.std.specs.Prelude.{◌≡◌, ◌≢◌, None};
+ghost use Rattle.model.specs.File.{bundle};
+ghost use Rattle.model.specs.Reading.{base_in, state_in, unfit_in};
+ghost use Rattle.model.specs.State.{atoms};
+ghost use Rattle.doc_store.specs.Documents.{IsDocument};
+ghost use Rattle.doc_store.specs.Kept.{state_of};
+ghost use Rattle.member_replica.specs.Replicas.{Builds};
+ghost use Rattle.member_replica.specs.declared.built.BuildFault.TheVariants.{NoMemory as OutOfMemory};
+
+use doc_store::Doc;
+use holding::Holding;
+use outside::Tally;
+use replica::{FileParts, Misfit};
+use std::alloc::{AllocError, Global};
+use std::marker::Model;
+
+/// Why a file gave no replica.
+#[derive(Clone, Copy, Debug, PartialEq, Eq)]
+pub enum BuildFault {
+    /// The first kept change that may not stand where it stands, and why.
+    Unfit {
+        member: u8,
+        number: u32,
+        misfit: Misfit,
+    },
+    /// Memory ran out.
+    NoMemory,
+}
+
+impl From<AllocError> for BuildFault {
+    ghost from_gives = { λ _ e. e ≡ OutOfMemory };
+
+    fn from(_e: AllocError) -> BuildFault {
+        BuildFault::NoMemory
+    }
+}
+
+/// A member file or a snapshot whose kept changes fit one another, with what they hold. Contracts see it as the file.
+#[derive(Drop)]
+pub struct Replica<'a> {
+    pub(crate) parts: FileParts<'a>,
+    pub(crate) holding: Holding,
+}
+
+impl<'a> Model for Replica<'a> {
+    ghost use Rattle.std.specs.Coded.{codes};
+    ghost use Rattle.std.specs.FinMap.{code};
+    ghost use Rattle.model.specs.File.{File};
+
+    ghost Value = { File };
+
+    ghost coded = { Prim.hlevel (codes, code) };
+
+    ghost use Rattle.member_replica.specs.Inside.{IsReplica};
+
+    ghost view = { λ r. r.parts };
+
+    ghost invariant = { IsReplica };
+}
+
+impl<'a> Replica<'a> {
+    /// The replica of a file, or its first kept change that isn't ready or doesn't fit the ones before it. Counts the operations
+    /// that it reads and the moves that it makes.
+    pub fn build(
+        alloc: Global,
+        parts: FileParts<'a>,
+        tally: &mut Tally,
+    ) -> Result<Replica<'a>, BuildFault>
+        requires { parts.kind ≢ bundle }
+        ensures { Builds parts.entry result }
+    {
+        let mut holding = Holding::new(alloc, parts.head().doc.n)?;
+        let kept = parts.kept();
+        'kept: for i in 0..kept.len() {
+            let block = kept.at(i);
+            if let Some(misfit) = holding.misfit(block, tally)? {
+                let head = block.head();
+                return Err(BuildFault::Unfit {
+                    member: head.member,
+                    number: head.number,
+                    misfit,
+                });
+            }
+            holding = holding.join(block, tally)?;
+        }
+        Ok(Replica { parts, holding })
+    }
+
+    /// The parts of the file.
+    pub fn parts(&self) -> &FileParts<'a>
+        ensures parts { result.now ≡ self.now }
+        ensures kind { self.now.kind ≢ bundle }
+        ensures fit { unfit_in self.now ≡ None }
+    {
+        &self.parts
+    }
+
+    /// The document.
+    pub fn doc(&self) -> &Doc
+        ensures document { IsDocument result.now (base_in self.now).state (atoms self.now.kept) }
+        ensures state { state_of result.now ≡ state_in self.now }
+    {
+        self.holding.document()
+    }
+}
