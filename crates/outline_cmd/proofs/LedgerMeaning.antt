@@ -45,7 +45,7 @@ use Rattle.replica.specs.declared.fault.MemberFault.TheVariants as faults
 use Rattle.outline_cmd.specs.declared.status.Status.{Status}
 use Rattle.outline_cmd.specs.declared.status.Status.TheVariants as s
 use Rattle.outline_cmd.specs.Outcome.{Outcome, storing, provided, told, printed, status_text, listed, checked, fitting_by_kind, held_by_some, member_of, holds as holds_member, of_kind, fitting, same_document, edited, acknowledged, shown, delivered, bundled, trimmed_told, cut_off, trimmed, snapped, released, begun, with_made_lines}
-use Rattle.outline_cmd.specs.Meaning.{Named, Roles, command_roles, reads, Loaded, missing, failed, whole, Loads, unused, file_of, of_input, edited_input, delivered_to, items_of, member_files, based_files, all_files, made_of, Store, Answer, store_at, target, stored_by, answered, sized_store, sized, order_meaning}
+use Rattle.outline_cmd.specs.Meaning.{Named, Roles, command_roles, reads, Loaded, missing, failed, whole, Loads, unused, file_of, of_input, delivered_to, items_of, member_files, based_files, all_files, made_of, Store, Answer, store_at, target, stored_by, answered, sized_store, sized, order_meaning}
 use Rattle.outline_cmd.specs.Run.{Brings, BringsOf, AreOf, with_store}
 use Rattle.outline_cmd.specs.Ledgers.{KeepsLedgers}
 use Rattle.outline_cmd.proofs.MeaningLaws.{passed, read_is}
@@ -105,10 +105,9 @@ is_read files word name bytes kinds f g held stored e =
     subst (IsRead files name kinds) (sym is.1) (record { holds = (bytes, held, stored); kind = is.0 })
 
 read_file : (files : Files) (word : ℕ) (name : List ℕ) (kinds : List Kind) (load : Loaded) (f : File) → Brings (file_at files name) load → file_of word kinds load (Ok f) → IsRead files name kinds f
-read_file files word name kinds load f brings (Ok bytes, e, (Ok g, (Ok u, base, stored), (Ok v, taken, k))) =
+read_file files word name kinds load f brings (Ok bytes, e, (Ok g, (Ok u, base, stored), k)) =
     is_read files word name bytes kinds f g (subst (Brings (file_at files name)) (read_is word load bytes e).0 brings) stored k
 read_file files word name kinds load f brings (Ok bytes, e, (Ok g, (Err q, base, same), k)) = absurd cc
-read_file files word name kinds load f brings (Ok bytes, e, (Ok g, (Ok u, base, stored), (Err q, taken, same))) = absurd cc
 read_file files word name kinds load f brings (Ok bytes, e, (Err q, scans, same)) = absurd cc
 read_file files word name kinds load f brings (Err q, e, same) = absurd cc
 
@@ -201,7 +200,7 @@ edit_done f e o is =
     let (cs, made, last) = on_done (told (made_edit f.members (held_in f) f.mine e)) (with_made_lines f) o more in
     (cs, told_done _ cs made, ap outcome_stores last)
 
-acks_done : (f : File) (o : Outcome) → Ok o ≡ acknowledged f → (cs : List Change) × (made_acks f.members (held_behind (base_in f)) f.kept f.mine ≡ Ok cs) × (o.stored ≡ Some (with_changes f cs))
+pub acks_done : (f : File) (o : Outcome) → Ok o ≡ acknowledged f → (cs : List Change) × (made_acks f.members (held_behind (base_in f)) f.kept f.mine ≡ Ok cs) × (o.stored ≡ Some (with_changes f cs))
 acks_done f o is =
     let (cs, made, last) = on_done (told (made_acks f.members (held_behind (base_in f)) f.kept f.mine)) (with_made_lines f) o is in
     (cs, told_done _ cs made, ap outcome_stores last)
@@ -209,6 +208,11 @@ acks_done f o is =
 -- what is stored where one test was passed before
 tested_done : (f : File) (first : Result (Unit {0}) Status) (next : Unit {0} → Result Outcome Status) (g : Option File) (o : Outcome) → ((u : Unit {0}) → outcome_stores (next u) ≡ g) → Ok o ≡ on first next → o.stored ≡ g
 tested_done f first next g o each is = let (u, passed, last) = on_done first next o is in ap outcome_stores last ∙ each u
+
+pub deliver_done : (f b : File) (o : Outcome) → Ok o ≡ delivered f b → (u : Unit {0}) × (same_document f b.document b.members ≡ Ok u) × (o.stored ≡ Some (with_settled f (settled_in f b.kept)))
+deliver_done f b o fin =
+    let (u, same, next) = on_done (same_document f b.document b.members) _ o fin in
+    (u, same, tested_done f (fitting 1 f) _ (Some (with_settled f (settled_in f b.kept))) o (λ w. refl) next)
 
 abbrev bundle_line : File → List ℕ → List ℕ
 bundle_line f vector = codes "changes" ++ (field (length (stored_bundle f vector).kept) ++ codes "\n")
@@ -285,17 +289,15 @@ module _ (files : Files) (ledgers : Ledgers) (stand : AllStand (file_at files) l
   abbrev IsFree : Command → Type 0
   IsFree c = (at : Named) → (command_roles c).new ≡ Some at → ledgers at.1 ≡ None
 
-  edit_kept : (name : List ℕ) (e : Edit) (loads : Loads) (o : Outcome) → IsWordEdit e → Brings (file_at files name) loads.input → edited_input loads (edited e) (Ok o) → Keeps (edit name e) o
-  edit_kept name e loads o is brings (Ok f, file, (Ok u, own, fin)) =
-      let r = read_file files 1 name member_files loads.input f brings file in
+  edit_kept : (name : List ℕ) (e : Edit) (loads : Loads) (o : Outcome) → IsWordEdit e → Brings (file_at files name) loads.input → of_input member_files loads (edited e) (Ok o) → Keeps (edit name e) o
+  edit_kept name e loads o is brings steps =
+      let (f, r, fin) = input_read files name member_files loads (edited e) o brings steps in
       let (cs, made, stored) = edit_done f e o fin in
       by_ledger (edit name e) o name (with_changes f cs) (1, name) (ledgers name) refl stored refl (sourced files ledgers (edit name e)) (λ none. none)
       (λ h has.
       let st = standing name f h r.holds has in
       let over : made_edit f.members (held f.members h) f.mine e ≡ Ok cs = sym (edits_alike f h e st.stands st.below) ∙ made in
       (stored_as name (stored_edit f (with_made h cs)) (with_made h cs), of_edit name e f h cs st.reads over, edit_form e is, sym (st.tells.edited e cs over), refl))
-  edit_kept name e loads o is brings (Ok f, file, (Err q, own, fin)) = absurd cc
-  edit_kept name e loads o is brings (Err q, file, fin) = absurd cc
 
   ack_kept : (name : List ℕ) (loads : Loads) (o : Outcome) → Brings (file_at files name) loads.input → of_input member_files loads acknowledged (Ok o) → Keeps (ack name) o
   ack_kept name loads o brings steps =
@@ -363,11 +365,6 @@ module _ (files : Files) (ledgers : Ledgers) (stand : AllStand (file_at files) l
   bundle_of f b u same kind =
       let both = both_true (bytes_eq f.document b.document) (eqb f.members b.members) (provided_done _ _ u same) in
       record { kind = kind; document = sym (same_bytes f.document b.document both.0); members = sym (eqb-true f.members b.members both.1) }
-
-  deliver_done : (f b : File) (o : Outcome) → Ok o ≡ delivered f b → (u : Unit {0}) × (same_document f b.document b.members ≡ Ok u) × (o.stored ≡ Some (with_settled f (settled_in f b.kept)))
-  deliver_done f b o fin =
-      let (u, same, next) = on_done (same_document f b.document b.members) _ o fin in
-      (u, same, tested_done f (fitting 1 f) _ (Some (with_settled f (settled_in f b.kept))) o (λ w. refl) next)
 
   deliver_kept : (name offered : List ℕ) (loads : Loads) (o : Outcome) → Brings (file_at files name) loads.input → Brings (file_at files offered) loads.second → delivered_to loads (Ok o) → Keeps (deliver name offered) o
   deliver_kept name offered loads o brings second (Ok f, file, (Ok b, other, fin)) =

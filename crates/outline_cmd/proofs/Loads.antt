@@ -1,5 +1,5 @@
 -- Loads one after the other bring a front of the file, and at its end all of it.
-use Rattle.std.proofs.Common.{◌≡◌, ℕ, ◌<◌, ◌≤◌, List, [], ◌++◌, length, take, drop, Option, None, Some, Ok, Err, ◌+◌, refl, sym, ap, subst, ◌∙◌, append_assoc, arith, length-append}
+use Rattle.std.proofs.Common.{◌≡◌, ℕ, ◌<◌, ◌≤◌, List, [], ◌++◌, length, take, drop, Option, None, Some, Result, Ok, Err, ◌+◌, refl, sym, ap, subst, ◌∙◌, append_assoc, arith, length-append}
 use Rattle.std.proofs.lemmas.List.{append-nil, nil_from_length, take-append-drop}
 use Rattle.std.proofs.Math.Seq.{drop-append_seam}
 use Rattle.std.proofs.lemmas.Bool.{le-leb, lt-leb}
@@ -9,10 +9,12 @@ use Rattle.outside.specs.Keeper.{LoadsAs}
 use Rattle.outside.specs.Files.{Files, file_at}
 use Rattle.model.specs.File.{file_limit}
 use Rattle.outline_cmd.specs.declared.status.Status.TheVariants as s
-use Rattle.outline_cmd.specs.Input.{IsFrontOf}
+use Rattle.outline_cmd.specs.Input.{IsFrontOf, KeepsName}
 use Rattle.outside.specs.Faults.{Rose}
 use Rattle.std.specs.Option.{option_map}
-use Rattle.outline_cmd.specs.Meaning.{Loaded, missing, failed, whole, read, input_bytes}
+use Rattle.outline_cmd.specs.Meaning.{Loaded, missing, failed, whole, read, input_bytes, exactly}
+use Rattle.outline_cmd.specs.Stages.{Follows}
+use Rattle.outline_cmd.specs.declared.status.Status.{Status}
 use Rattle.outline_cmd.specs.Run.{Brings, BringsOf, IsLoad, IsLoadOf}
 use Rattle.outside.specs.Seen.{Seen}
 use Rattle.outline_cmd.proofs.MeaningLaws.{read_is}
@@ -133,6 +135,14 @@ earlier_load old mid new (Some at) load files count name is =
       told = λ fs e. is.told fs (files ∙ e);
       fault = λ e. let f = is.fault e in let rose = f.rose in record { rose = omega (arith, rose); named = f.named ∙ ap (option_map (λ _. Some at.1)) name };
     }
+
+name_by : {X : Type 0} (view : X → List ℕ) (result : Result X Status) (read : Result (List ℕ) Status) (bytes : List ℕ) (old new : Option (Option (List ℕ))) → Ok bytes ≡ read → Follows view result (exactly read) → KeepsName result old new → new ≡ old
+name_by view (Err (s.ReadFault word)) read bytes old new goes is keeps = absurd cc
+name_by view _ read bytes old new goes is keeps = keeps
+
+-- A load that didn't fail leaves the name of the one that did.
+pub name_kept : {X : Type 0} (view : X → List ℕ) (result : Result X Status) (at : Option (ℕ × List ℕ)) (load : Loaded) (bytes : List ℕ) (old new : Option (Option (List ℕ))) → Ok bytes ≡ input_bytes at load → Follows view result (exactly (input_bytes at load)) → KeepsName result old new → new ≡ old
+name_kept view result at load bytes old new goes is keeps = name_by view result (input_bytes at load) bytes old new goes is keeps
 
 -- what is loaded brings what the files hold that are told
 pub of_load : (old new : Seen) (files : Files) (at : Option (ℕ × List ℕ)) (load : Loaded) → old.files ≡ Some files → IsLoadOf old new at load → BringsOf files at load

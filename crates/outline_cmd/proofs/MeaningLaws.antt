@@ -3,12 +3,7 @@ use Rattle.std.proofs.Common.{◌≡◌, ℕ, ◌≤◌, true, false, Bool, cond
 use Rattle.std.proofs.lemmas.Bool.{leb-true}
 use Rattle.model.specs.File.{file_limit}
 use Rattle.outline_cmd.specs.declared.status.Status.TheVariants as s
-use Rattle.outline_cmd.specs.Meaning.{Meaning, ◌>>=◌, Loaded, missing, failed, whole, read}
-
--- Where all steps are done, each of them is.
-pub both_done : {A B : Type 0} (first : Meaning A) (next : A → Meaning B) (y : B) → (first >>= next) (Ok y) → (x : A) × first (Ok x) × next x (Ok y)
-both_done first next y (Ok x, goes, rest) = (x, goes, rest)
-both_done first next y (Err refusal, goes, rest) = absurd cc
+use Rattle.outline_cmd.specs.Meaning.{Loaded, missing, failed, whole, read}
 
 -- A test that lets something pass held, and this is what passed.
 pub passed : {A E : Type 0} (b : Bool) (x y : A) (refusal : E) → Ok y ≡ cond b (Ok x) (Err refusal) → (b ≡ true) × (y ≡ x)

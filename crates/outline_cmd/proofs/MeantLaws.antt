@@ -25,7 +25,7 @@ use Rattle.replica.specs.declared.fault.BadFile.TheVariants as bad
 use Rattle.outline_cmd.specs.declared.status.Status.{Status}
 use Rattle.outline_cmd.specs.declared.status.Status.TheVariants as s
 use Rattle.outline_cmd.specs.Outcome.{Outcome, printed, edited, acknowledged, shown, status_text, listed, bundled, delivered, trimmed, snapped, released, begun, checked, of_kind, founded}
-use Rattle.outline_cmd.specs.Scope.{taken_base, taken_file, taken_editor, taken_words, taken_order}
+use Rattle.outline_cmd.specs.Scope.{taken_base, taken_words, taken_order}
 use Rattle.outline_cmd.specs.Meaning.{Meaning, ◌>>=◌, exactly, Continues, Loaded, Loads, read, spelled, scanned, opened, file_of, member_files, based_files, all_files, itemized, made_of, order_made, order_meaning, said, ordered, meaning, unused, sized, answered, roles}
 
 -- ---- meanings with one outcome
@@ -162,7 +162,7 @@ one_spelled word bytes (Err p) (Err q) (why, is, fault) (other, was, same) =
 one_read : (word : ℕ) (kinds : List Kind) (load : Loaded) → HasOne (file_of word kinds load)
 one_read word kinds load =
     one_then _ _ (one_exactly (read word load)) (λ bytes. one_then (scanned word bytes) _ (one_then _ _ (one_base word bytes) (λ u. one_spelled word bytes))
-    (λ f. one_then _ _ (one_exactly (taken_file word f)) (λ u. one_exactly _)))
+    (λ f. one_exactly _))
 
 one_itemized : (bytes : List ℕ) → HasOne (itemized bytes)
 one_itemized bytes (Ok o) (Ok p) (xs, spells, is) (ys, again, was) =
@@ -178,7 +178,7 @@ one_input kinds loads made = one_then _ _ (one_read 1 kinds loads.input) (λ f. 
 
 one_of : (loads : Loads) (c : Command) → HasOne (made_of loads c)
 one_of loads (found document n name) = one_exactly _
-one_of loads (edit name e) = one_then _ _ (one_read 1 member_files loads.input) (λ f. one_then (exactly (taken_editor f.mine f.kept)) (λ u. exactly (edited e f)) (one_exactly _) (λ u. one_exactly _))
+one_of loads (edit name e) = one_input member_files loads (edited e)
 one_of loads (ack name) = one_input member_files loads acknowledged
 one_of loads (show name) = one_input based_files loads shown
 one_of loads (status name) = one_input based_files loads (λ f. printed (status_text f))
@@ -237,9 +237,8 @@ some_spelled word bytes is most =
 some_file : (word : ℕ) (kinds : List Kind) (load : Loaded) → IsOfBytes load → HasSome (file_of word kinds load)
 some_file word kinds load is =
     some_read word load (opened word kinds) (read word load) refl is
-    (λ bytes each most. some_then (scanned word bytes) (λ f. exactly (taken_file word f) >>= λ u. exactly (of_kind word kinds f))
-    (some_then (taken_base word bytes) (λ u. spelled word bytes) (some_base word bytes each most) (λ u. some_spelled word bytes each most))
-    (λ f. some_then (exactly (taken_file word f)) (λ u. exactly (of_kind word kinds f)) (some_exactly (taken_file word f)) (λ u. some_exactly (of_kind word kinds f))))
+    (λ bytes each most. some_then (scanned word bytes) (λ f. exactly (of_kind word kinds f))
+    (some_then (taken_base word bytes) (λ u. spelled word bytes) (some_base word bytes each most) (λ u. some_spelled word bytes each most)) (λ f. some_exactly (of_kind word kinds f)))
 
 some_itemized : (bytes : List ℕ) → IsBytes bytes → HasSome (itemized bytes)
 some_itemized bytes is =
@@ -251,9 +250,7 @@ some_input kinds loads made are = some_then (file_of 1 kinds loads.input) (λ f.
 
 some_of : (loads : Loads) (c : Command) → AreOfBytes loads → HasSome (made_of loads c)
 some_of loads (found document n name) are = some_exactly (founded document n)
-some_of loads (edit name e) are =
-    some_then (file_of 1 member_files loads.input) (λ f. exactly (taken_editor f.mine f.kept) >>= λ u. exactly (edited e f)) (some_file 1 member_files loads.input are.input)
-    (λ f. some_then (exactly (taken_editor f.mine f.kept)) (λ u. exactly (edited e f)) (some_exactly (taken_editor f.mine f.kept)) (λ u. some_exactly (edited e f)))
+some_of loads (edit name e) are = some_input member_files loads (edited e) are
 some_of loads (ack name) are = some_input member_files loads acknowledged are
 some_of loads (show name) are = some_input based_files loads shown are
 some_of loads (status name) are = some_input based_files loads (λ f. printed (status_text f)) are

@@ -1,13 +1,12 @@
 -- The stages of opening a file answer what they mean.
-use Rattle.std.proofs.Common.{◌≡◌, ◌≢◌, ℕ, ◌≤◌, Bool, true, false, eqb, ◌||◌, List, ◌∷◌, [], map, length, Ok, Err, refl, sym, ap, ◌∙◌}
+use Rattle.std.proofs.Common.{◌≡◌, ◌≢◌, ℕ, ◌≤◌, Bool, true, eqb, ◌||◌, List, ◌∷◌, [], map, length, Ok, Err, refl, sym, ap, ◌∙◌}
 use Rattle.std.specs.List.{list_any}
 use Rattle.model.specs.File.{File, Kind, member_file, bundle, snapshot, kind_number, file_limit}
 use Rattle.replica.specs.Scanning.{ScanAnswer}
 use Rattle.outline_cmd.specs.declared.status.Status.TheVariants as s
 use Rattle.outline_cmd.specs.Meaning.{scanned, opened, member_files, based_files}
-use Rattle.outline_cmd.specs.Opened.{IsScanned, IsOpened, IsTaken, AreKinds}
+use Rattle.outline_cmd.specs.Opened.{IsScanned, AreKinds}
 use Rattle.outline_cmd.specs.Outcome.{provided, of_kind}
-use Rattle.outline_cmd.specs.Scope.{is_taken, taken_as, taken_file}
 use Rattle.outline_cmd.proofs.BaseLaws.{no_other_base}
 use Rattle.outline_cmd.proofs.LedgerMeaning.{kind_passed}
 use Rattle.outline_cmd.proofs.StepLaws.{on}
@@ -19,20 +18,6 @@ scan_is bytes f short found = record { stored = record { spells = found.0; most 
 
 pub scan_means : (word : ℕ) (bytes : List ℕ) (f : File) → length bytes ≤ file_limit → ScanAnswer bytes (Ok f) → scanned word bytes (Ok f)
 scan_means word bytes f short found = (Ok tt, no_other_base bytes f short found.0 found.1, record { spells = found.0; most = short })
-
--- ---- what is taken
-
-taken_in : (k : Kind) (word : ℕ) (f : File) (b : Bool) → k ≢ bundle → is_taken f ≡ b → taken_as k word f ≡ provided b (s.NotBuilt word)
-taken_in member_file word f b other is = ap (λ t. provided t (s.NotBuilt word)) is
-taken_in bundle word f b other is = absurd (other refl)
-taken_in snapshot word f b other is = ap (λ t. provided t (s.NotBuilt word)) is
-
-taken_by : (k : Kind) (word : ℕ) (f : File) (b : Bool) → k ≢ bundle → is_taken f ≡ b → taken_as k word f ≡ Ok tt → b ≡ true
-taken_by k word f true other is e = refl
-taken_by k word f false other is e = let none = taken_in k word f false other is in absurd cc
-
-pub opened_taken : (word : ℕ) (bytes : List ℕ) (f : File) → IsScanned bytes f → taken_file word f ≡ Ok tt → f.kind ≢ bundle → IsTaken f
-opened_taken word bytes f is taken kind = record { bytes = bytes; scanned = is; kind = kind; taken = taken_by f.kind word f (is_taken f) kind refl taken }
 
 -- ---- kinds
 
@@ -62,12 +47,7 @@ not_among_members snapshot e is = absurd cc
 
 -- A file of these kinds has a base.
 pub opened_based : (word : ℕ) (bytes : List ℕ) (kinds : List Kind) (f : File) → ((k : Kind) → list_any (λ l. eqb (kind_number l) (kind_number k)) kinds ≡ true → k ≢ bundle) → opened word kinds bytes (Ok f) → f.kind ≢ bundle
-opened_based word bytes kinds f based (Ok g, scans, (Ok u, taken, e)) =
+opened_based word bytes kinds f based (Ok g, scans, e) =
     let p = kind_passed (list_any (λ l. eqb (kind_number l) (kind_number g.kind)) kinds) f g (s.OtherKind word (kind_number g.kind)) e in
     λ is. based g.kind p.0 (ap (λ (h : File). h.kind) (sym p.1) ∙ is)
-opened_based word bytes kinds f based (Ok g, scans, (Err q, taken, e)) = absurd cc
 opened_based word bytes kinds f based (Err q, scans, e) = absurd cc
-
--- It is taken.
-pub is_taken_file : (word : ℕ) (bytes : List ℕ) (f : File) → IsOpened word bytes f → f.kind ≢ bundle → IsTaken f
-is_taken_file word bytes f is kind = opened_taken word bytes f is.scanned is.taken kind

@@ -11,7 +11,6 @@ pub mod OfBytes
 pub mod Script
 pub mod Tasks
 pub mod Opened
-pub mod Edits
+pub mod Made
 pub mod Stages
 pub mod Input
-pub mod Document

@@ -17,7 +17,7 @@ use Rattle.outline_cmd.specs.declared.status.Status.{Status}
 use Rattle.outline_cmd.specs.declared.status.Status.TheVariants as s
 use Rattle.outline_cmd.specs.Outcome.{Outcome, printed, of_kind, founded, edited, acknowledged, shown, status_text, listed, bundled, delivered, trimmed, snapped, released, begun, checked}
 use Rattle.outline_cmd.specs.Sample.{sampled}
-use Rattle.outline_cmd.specs.Scope.{taken_words, taken_order, taken_base, taken_file, taken_editor}
+use Rattle.outline_cmd.specs.Scope.{taken_words, taken_order, taken_base}
 
 -- ---- meanings
 
@@ -132,7 +132,6 @@ scanned word bytes = do
 abbrev pub opened : ℕ → List Kind → List ℕ → Meaning File
 opened word kinds bytes = do
   f ← scanned word bytes
-  u ← exactly (taken_file word f)
   exactly (of_kind word kinds f)
 
 -- The file that a word names, of a kind that is taken.
@@ -164,12 +163,6 @@ of_input kinds loads made = do
   f ← file_of 1 kinds loads.input
   exactly (made f)
 
-abbrev pub edited_input : Loads → (File → Result Outcome Status) → Meaning Outcome
-edited_input loads made = do
-  f ← file_of 1 member_files loads.input
-  u ← exactly (taken_editor f.mine f.kept)
-  exactly (made f)
-
 abbrev pub delivered_to : Loads → Meaning Outcome
 delivered_to loads = do
   f ← file_of 1 member_files loads.input
@@ -189,7 +182,7 @@ script_of loads = do
 
 abbrev pub made_of : Loads → Command → Meaning Outcome
 made_of loads (found document n name) = exactly (founded document n)
-made_of loads (edit name e) = edited_input loads (edited e)
+made_of loads (edit name e) = of_input member_files loads (edited e)
 made_of loads (ack name) = of_input member_files loads acknowledged
 made_of loads (show name) = of_input based_files loads shown
 made_of loads (status name) = of_input based_files loads (λ f. printed (status_text f))

@@ -1,8 +1,8 @@
--- What a task of the code is to do, and what is made of the bytes of its file. Private contracts alone cite this.
+-- What a task of the code is to do, and what is made of what its files hold. Private contracts alone cite this.
 use Rattle.std.specs.Prelude.{◌≡◌, ℕ, List, Ok}
 use Rattle.model.specs.Value as model
 use Rattle.model.specs.Edit.{Edit, put_value, add_at, set_at}
-use Rattle.model.specs.Command.{found, edit, show, items}
+use Rattle.model.specs.Command.{found, edit, ack, show, bundle_since, deliver, items}
 use Rattle.doc_store.specs.Edits.{edit_of}
 use Rattle.outline_words.specs.Commands.{SaysValue, IsOrder}
 use Rattle.outline_words.specs.Forms.{IsWordValue}
@@ -12,7 +12,7 @@ use Rattle.outline_words.specs.declared.command.WordValue.TheVariants as v
 use Rattle.outline_cmd.specs.declared.edit_words.EditWords.{EditWords}
 use Rattle.outline_cmd.specs.declared.scope.Task.{Task}
 use Rattle.outline_cmd.specs.declared.scope.Task.TheVariants as t
-use Rattle.outline_cmd.specs.Meaning.{Meaning, ◌>>=◌, exactly, missing, whole, Loads, Roles, roles, Answer, order_made, answered}
+use Rattle.outline_cmd.specs.Meaning.{Meaning, ◌>>=◌, exactly, Loaded, missing, whole, Loads, Roles, roles, Answer, order_made, answered}
 use Rattle.outline_cmd.specs.Outcome.{Outcome}
 
 -- the edit with this value, if it is one that has a value
@@ -34,17 +34,20 @@ GivesValue (v.Digits digits) value bytes = value ≡ model.bytes bytes
 abbrev pub Tells : Task → Order → Type 0
 Tells (t.Found document members name) order = order ≡ command (found document members name.now)
 Tells (t.Edit name words) order = (e : Edit) × SaysEdit words e × (order ≡ command (edit name.now e))
+Tells (t.Ack name) order = order ≡ command (ack name.now)
 Tells (t.Show name) order = order ≡ command (show name.now)
 Tells (t.Items name) order = order ≡ command (items name.now)
+Tells (t.Bundle name vector new_name) order = order ≡ command (bundle_since name.now vector new_name.now)
+Tells (t.Deliver name offered) order = order ≡ command (deliver name.now offered.now)
 
 -- The task is to do what the order says, whose words are in form.
 pub record Does (task : Task) (order : Order) : Type 0 where
   pub tells : Tells task order
   pub in_form : IsOrder order
 
--- these bytes are loaded, and nothing else
-abbrev pub over : List ℕ → Loads
-over bytes = record { input = whole bytes; second = missing; new = missing }
+-- These bytes are the first file's, and this is what loading the second brings.
+abbrev pub over : List ℕ → Loaded → Loads
+over bytes second = record { input = whole bytes; second = second; new = missing }
 
 -- the answer that is made of an outcome
 abbrev pub answering : Roles → Meaning Outcome → Meaning Answer
@@ -52,6 +55,6 @@ answering r made = do
   o ← made
   exactly (Ok (answered r o))
 
--- what an order makes of the bytes of its file
-abbrev pub order_made_of : Order → List ℕ → Meaning Answer
-order_made_of order bytes = answering (roles order) (order_made (over bytes) order)
+-- what an order makes of the bytes of its file, and of its second file
+abbrev pub order_made_of : Order → List ℕ → Loaded → Meaning Answer
+order_made_of order bytes second = answering (roles order) (order_made (over bytes second) order)

@@ -1,37 +1,44 @@
 //! What holds of the definitions of the command, as contracts of functions that do nothing.
 
 ghost use Rattle.std.specs.Prelude.{◌≡◌, ℕ, true, List, None, Some, Result, Ok};
+ghost use Rattle.std.specs.List.{AllByRecursion};
 ghost use Rattle.model.specs.Change.{Change};
 ghost use Rattle.model.specs.Edit.{Edit};
 ghost use Rattle.model.specs.File.{File};
+ghost use Rattle.model.specs.Held.{held, waits};
 ghost use Rattle.model.specs.Reading.{state_in, unfit_in};
 ghost use Rattle.model.specs.Stands.{Stands, Ledgers, AllStand};
 ghost use Rattle.model.specs.State.{replay};
 ghost use Rattle.model.specs.Command.{Command as TheCommand};
 ghost use Rattle.outside.specs.Files.{Files, file_at};
+ghost use Rattle.replica.specs.Scanning.{HasEmptyBase};
 ghost use Rattle.outline_words.specs.Commands.{IsOrder};
 ghost use Rattle.outline_words.specs.Table.{Order, command};
 ghost use Rattle.outline_cmd.specs.Ledgers.{KeepsLedgers};
 ghost use Rattle.outline_cmd.specs.Meaning.{Loads, Answer, command_roles, order_meaning, meaning};
 ghost use Rattle.outline_cmd.specs.OfBytes.{AreOfBytes};
-ghost use Rattle.outline_cmd.specs.Opened.{IsTaken};
-ghost use Rattle.outline_cmd.specs.Outcome.{Outcome, edited};
+ghost use Rattle.outline_cmd.specs.Opened.{IsUntrimmed};
+ghost use Rattle.outline_cmd.specs.Outcome.{Outcome, edited, acknowledged, delivered};
 ghost use Rattle.outline_cmd.specs.Run.{AreOf, with_store};
-ghost use Rattle.outline_cmd.specs.Scope.{taken_editor, is_taken};
 ghost use Rattle.outline_cmd.specs.declared.status.Status.{Status as TheStatus};
 
-/// A file that this version takes stands for the ledger of its changes exactly where they fit one another, and for no
-/// other.
-pub fn taken_files_stand()
-    ensures stands { (f : File) → IsTaken f → unfit_in f ≡ None → Stands f f.kept }
-    ensures alone { (f : File) (h : List Change) → IsTaken f → Stands f h → (h ≡ f.kept) × (unfit_in f ≡ None) }
-    ensures state { (f : File) → IsTaken f → state_in f ≡ replay f.kept }
+/// A file with the empty base stands for the ledger of its kept changes, where they fit one another and its waiting
+/// changes wait, and for no other ledger.
+pub fn untrimmed_files_stand()
+    ensures stands { (f : File) → IsUntrimmed f → unfit_in f ≡ None
+        → AllByRecursion (λ c. waits f.members (held f.members f.kept) c ≡ true) f.waiting → Stands f f.kept }
+    ensures alone { (f : File) (h : List Change) → IsUntrimmed f → Stands f h → (h ≡ f.kept) × (unfit_in f ≡ None) }
+    ensures state { (f : File) → IsUntrimmed f → state_in f ≡ replay f.kept }
 {}
 
-/// A file that is taken is so still after an edit.
-pub fn taken_files_stay_taken()
-    ensures { (f : File) (e : Edit) (o : Outcome) (g : File) → IsTaken f → taken_editor f.mine f.kept ≡ Ok tt
-        → edited e f ≡ Ok o → o.stored ≡ Some g → is_taken g ≡ true }
+/// A file with the empty base has it still after an edit, an acknowledgement or a delivery.
+pub fn untrimmed_files_stay_so()
+    ensures edited { (f g : File) (e : Edit) (o : Outcome) → HasEmptyBase f → edited e f ≡ Ok o → o.stored ≡ Some g
+        → HasEmptyBase g }
+    ensures acknowledged { (f g : File) (o : Outcome) → HasEmptyBase f → acknowledged f ≡ Ok o → o.stored ≡ Some g
+        → HasEmptyBase g }
+    ensures delivered { (f offered g : File) (o : Outcome) → HasEmptyBase f → delivered f offered ≡ Ok o
+        → o.stored ≡ Some g → HasEmptyBase g }
 {}
 
 /// Words mean one outcome over loads, and an order does.

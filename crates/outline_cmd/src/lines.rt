@@ -1,13 +1,13 @@
 //! Printed lines: who holds a file, and what was made.
 
-ghost use Rattle.std.specs.Prelude.{◌≡◌, ◌<◌, List, IfOk};
+ghost use Rattle.std.specs.Prelude.{◌≡◌, ◌<◌, List, IfOk, flat_map, map};
+ghost use Rattle.member_replica.specs.Making.{note_of};
 ghost use Rattle.model.specs.Base.{members as members_of};
-ghost use Rattle.model.specs.Operation.{Operation};
+ghost use Rattle.model.specs.Change.{Change};
 ghost use Rattle.model.specs.Text as printed;
-ghost use Rattle.op_grammar.specs.Changes.{change_of};
 
 use cbor_det::OwnText;
-use op_grammar::Head;
+use member_replica::MadeNote;
 use std::alloc::{AllocError, Global};
 
 /// The line that says who holds a file: all of so many members.
@@ -24,10 +24,14 @@ pub(crate) fn holds_text(alloc: Global, members: u8) -> Result<OwnText, AllocErr
     Ok(OwnText::from_string(text))
 }
 
-/// The line that says what was made.
-pub(crate) fn made_text(alloc: Global, head: &Head) -> Result<OwnText, AllocError>
-    ensures { (os : List Operation) → IfOk result (λ text. text ≡ printed.made_line (change_of head.now os)) }
+/// The lines that say what was made, one for each change.
+pub(crate) fn made_text(alloc: Global, notes: &[MadeNote]) -> Result<OwnText, AllocError>
+    ensures { (cs : List Change) → notes.now ≡ map note_of cs
+        → IfOk result (λ text. text ≡ flat_map printed.made_line cs) }
 {
-    let text = format!(in alloc; "made {} {} {}\n", head.member, head.number, head.time)?;
+    let mut text = String::new(alloc);
+    for note in notes {
+        writeln!(text, "made {} {} {}", note.member, note.number, note.time)?;
+    }
     Ok(OwnText::from_string(text))
 }

@@ -1,16 +1,16 @@
-//! The file that a command reads: taken apart, found to be one that this version takes, and of a kind that the command takes.
+//! The file that a command reads: taken apart, found to be of a kind that the command takes, and built up to what it holds.
 
-ghost use Rattle.std.specs.Prelude.{◌≡◌, ◌≤◌, List, IfOk, length};
-ghost use Rattle.model.specs.File.{File, Kind, kind_number, file_limit};
+ghost use Rattle.std.specs.Prelude.{◌≡◌, ◌≢◌, ◌≤◌, List, IfOk, length};
+ghost use Rattle.model.specs.File.{File, Kind, bundle, kind_number, file_limit};
 ghost use Rattle.outline_cmd.specs.Meaning.{exactly, scanned, opened};
-ghost use Rattle.outline_cmd.specs.Opened.{IsScanned, IsOpened, AreKinds};
-ghost use Rattle.outline_cmd.specs.Outcome.{of_kind};
-ghost use Rattle.outline_cmd.specs.Scope.{taken_file};
+ghost use Rattle.outline_cmd.specs.Opened.{IsScanned, AreKinds};
+ghost use Rattle.outline_cmd.specs.Outcome.{fitting, of_kind};
 ghost use Rattle.outline_cmd.specs.Stages.{Follows};
 
 use crate::status::Status;
-use crate::taken::is_taken;
-use replica::{BUNDLE, FileParts, ScanFault, scan_file};
+use member_replica::{BuildFault, Replica};
+use outside::Tally;
+use replica::{FileParts, ScanFault, scan_file};
 use std::alloc::Global;
 
 /// Takes apart the file that the bytes spell which a word of the command line names.
@@ -27,17 +27,6 @@ fn scan<'a>(alloc: Global, word: u32, bytes: &'a [u8]) -> Result<FileParts<'a>, 
     }
 }
 
-/// Finds that a file is taken. A bundle is, whatever it carries.
-fn check_taken(word: u32, parts: &FileParts<'_>) -> Result<(), Status>
-    ensures { Follows (λ u. u) result (exactly (taken_file word parts.now)) }
-{
-    if parts.head().kind == BUNDLE || is_taken(parts) {
-        Ok(())
-    } else {
-        Err(Status::NotBuilt { word })
-    }
-}
-
 /// Finds that a kind is one of these.
 fn check_kind(word: u32, kind: u8, kinds: &[u8]) -> Result<(), Status>
     ensures { (f : File) (taken : List Kind) → kind ≡ kind_number f.kind → AreKinds kinds.now taken
@@ -50,7 +39,8 @@ fn check_kind(word: u32, kind: u8, kinds: &[u8]) -> Result<(), Status>
     }
 }
 
-/// Opens the file that the bytes spell which a word of the command line names: it is taken, and of one of these kinds.
+/// Opens the file that the bytes spell which a word of the command line names: its base is taken, and it is of one of
+/// these kinds.
 pub(crate) fn open<'a>(
     alloc: Global,
     word: u32,
@@ -60,10 +50,37 @@ pub(crate) fn open<'a>(
     requires { length bytes.now ≤ file_limit }
     ensures told { (taken : List Kind) → AreKinds kinds.now taken
         → Follows (λ parts. parts) result (opened word taken bytes.now) }
-    ensures is { IfOk result (IsOpened word bytes.now) }
+    ensures is { IfOk result (IsScanned bytes.now) }
 {
     let parts = scan(alloc, word, bytes)?;
-    check_taken(word, &parts)?;
     check_kind(word, parts.head().kind, kinds)?;
     Ok(parts)
+}
+
+/// The replica of a file whose changes fit one another. A word of the command line names the file.
+pub(crate) fn replica_of<'a>(
+    alloc: Global,
+    word: u32,
+    parts: FileParts<'a>,
+) -> Result<Replica<'a>, Status>
+    requires { parts.kind ≢ bundle }
+    ensures told { Follows (λ r. tt) result (exactly (fitting word parts.entry)) }
+    ensures is { IfOk result (λ r. r ≡ parts.entry) }
+{
+    match Replica::build(alloc, parts, &mut Tally::new()) {
+        Ok(replica) => Ok(replica),
+        Err(
+            BuildFault::Unfit {
+                member,
+                number,
+                misfit,
+            },
+        ) => Err(Status::Unfit {
+            word,
+            member,
+            number,
+            misfit,
+        }),
+        Err(BuildFault::NoMemory) => Err(Status::NoMemory),
+    }
 }

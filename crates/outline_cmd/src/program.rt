@@ -1,6 +1,6 @@
 //! The program: the command that the words give, over the files, stored and printed.
 
-ghost use Rattle.std.specs.Prelude.{◌≡◌, ◌<◌, ◌≤◌, ℕ, List, [], Some, Ok, Err, IfOk, IfErr, length};
+ghost use Rattle.std.specs.Prelude.{◌≡◌, ◌<◌, ◌≤◌, ℕ, List, [], Some, Ok, Err, IfOk, IfErr, length, vec_len};
 ghost use Rattle.outside.specs.Files.{Files, file_at};
 ghost use Rattle.outside.specs.Keeper.{OnlyLoaded};
 ghost use Rattle.outside.specs.Seen.{seen_by};
@@ -11,47 +11,34 @@ ghost use Rattle.model.specs.Stands.{Ledgers, AllStand};
 ghost use Rattle.outline_words.specs.Table.{Order, command as ordering, Spell};
 ghost use Rattle.outline_cmd.specs.Ending.{ending, refused};
 ghost use Rattle.outline_cmd.specs.Ledgers.{ShowsFile, ShowsLedger, KeepsLedgers, IsDone};
-ghost use Rattle.outline_cmd.specs.Meaning.{Loads, roles, ordered, order_meaning};
+ghost use Rattle.outline_cmd.specs.Meaning.{Loaded, Loads, exactly, input_bytes, roles, ordered, order_meaning};
 ghost use Rattle.outline_cmd.specs.Tasks.{Does, order_made_of};
 ghost use Rattle.outline_cmd.specs.Run.{AreLoads, Runs, given_by, outside_by};
 ghost use Rattle.outline_cmd.specs.Stages.{Follows, answer_of};
 ghost use Rattle.outline_cmd.specs.declared.status.Status.{Status as TheStatus};
 ghost use Rattle.outline_cmd.specs.declared.status.Status.TheVariants.{Done};
 
+use crate::ack::ack_file;
 use crate::answer::{Answer, Store, check_size, finish};
-use crate::document::document_of;
+use crate::bundle::bundle_file;
+use crate::deliver::deliver_file;
 use crate::edit::edit_file;
 use crate::input::{check_unused, load_input};
 use crate::lines::holds_text;
-use crate::opened::open;
 use crate::scope::{Task, names_untaken, take};
+use crate::show::show_file;
 use crate::status::Status;
 use cbor_det::{DiagnosticFault, diagnostic};
-use outline_show::show_text;
 use outline_words::{Words, read_words};
 use outside::{Keeper, Sink, Tally};
-use replica::{BadFile, DocRef, MEMBER_FILE, SNAPSHOT, found as first_file};
+use replica::{BadFile, DocRef, found as first_file};
 use std::alloc::Global;
-
-/// The kinds of files that have a base.
-const BASED_FILES: [u8; 2] = [MEMBER_FILE, SNAPSHOT];
-
-/// The answer of `show` over the bytes of a file.
-fn show<'w>(alloc: Global, bytes: &[u8]) -> Result<Answer<'w>, Status>
-    requires { length bytes.now ≤ file_limit }
-    ensures { (name : List ℕ) → Follows answer_of result (order_made_of (ordering (shows_name name)) bytes.now) }
-{
-    let parts = open(alloc, 1, bytes, &BASED_FILES)?;
-    let document = document_of(alloc, 1, &parts)?;
-    let view = document.view()?;
-    let text = show_text(alloc, &view)?;
-    Ok(Answer { text, store: None })
-}
 
 /// The answer of `items` over the bytes of a file.
 fn items<'w>(alloc: Global, bytes: &[u8]) -> Result<Answer<'w>, Status>
     requires { length bytes.now ≤ file_limit }
-    ensures { (name : List ℕ) → Follows answer_of result (order_made_of (ordering (lists_items name)) bytes.now) }
+    ensures { (name : List ℕ) (second : Loaded)
+        → Follows answer_of result (order_made_of (ordering (lists_items name)) bytes.now second) }
 {
     match diagnostic(alloc, bytes) {
         Ok(text) => Ok(Answer { text, store: None }),
@@ -72,7 +59,8 @@ fn found<'w>(
 ) -> Result<Answer<'w>, Status>
     requires some { 1 ≤ members }
     requires few { members ≤ 32 }
-    ensures { (bytes : List ℕ) → Follows answer_of result (order_made_of (ordering (founds document members name.now)) bytes) }
+    ensures { (bytes : List ℕ) (second : Loaded)
+        → Follows answer_of result (order_made_of (ordering (founds document members name.now)) bytes second) }
 {
     let bytes = first_file(
         alloc,
@@ -92,11 +80,19 @@ fn found<'w>(
     })
 }
 
-/// What a task makes of the bytes of its file, if it reads one.
-fn make<'w>(alloc: Global, task: Task<'w>, bytes: &[u8]) -> Result<Answer<'w>, Status>
+/// What a task makes of the bytes of its file, if it reads one, and of those of its second file, or what is wrong with reading it.
+fn make<'w>(
+    alloc: Global,
+    task: Task<'w>,
+    bytes: &[u8],
+    second: &Result<Vec<u8>, Status>,
+) -> Result<Answer<'w>, Status>
     requires given { (order : Order) × Does task order }
     requires short { length bytes.now ≤ file_limit }
-    ensures { (order : Order) → Does task.entry order → Follows answer_of result (order_made_of order bytes.now) }
+    requires short_second { IfOk second.now (λ b. vec_len b ≤ file_limit) }
+    ensures { (order : Order) (load : Loaded) → Does task.entry order
+        → Follows (λ b. b.items) second.now (exactly (input_bytes (roles order).second load))
+        → Follows answer_of result (order_made_of order bytes.now load) }
 {
     match task {
         Task::Found {
@@ -105,8 +101,15 @@ fn make<'w>(alloc: Global, task: Task<'w>, bytes: &[u8]) -> Result<Answer<'w>, S
             name,
         } => found(alloc, document, members, name),
         Task::Edit { name, edit } => edit_file(alloc, bytes, name, edit),
-        Task::Show { .. } => show(alloc, bytes),
+        Task::Ack { name } => ack_file(alloc, bytes, name),
+        Task::Show { .. } => show_file(alloc, bytes),
         Task::Items { .. } => items(alloc, bytes),
+        Task::Bundle {
+            vector,
+            new_name,
+            ..
+        } => bundle_file(alloc, bytes, &vector, new_name),
+        Task::Deliver { name, .. } => deliver_file(alloc, bytes, second, name),
     }
 }
 
@@ -123,9 +126,12 @@ fn answer<'w, K: Keeper>(
         × Follows answer_of result (order_meaning loads order) }
     ensures loads { OnlyLoaded K.files K.load_faults K.store_faults keeper.old keeper.new }
 {
+    let new_name = task.new_name();
     let bytes = load_input(alloc, keeper, task.input())?;
-    let answer = make(alloc, task, &bytes)?;
-    check_unused(keeper, task.new_name())?;
+    // What is wrong with the second file is told behind what is wrong with the first.
+    let second = load_input(alloc, keeper, task.second());
+    let answer = make(alloc, task, &bytes, &second)?;
+    check_unused(keeper, new_name)?;
     check_size(&answer)?;
     Ok(answer)
 }

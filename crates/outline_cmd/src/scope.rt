@@ -18,9 +18,10 @@ use crate::status::Status;
 use doc_store::Edit;
 use op_grammar::Value;
 use outline_words::{Command, WordValue, Words};
+use version_vector::Vector;
 
 /// A command that this version takes.
-#[derive(Clone, Copy)]
+#[derive(Drop)]
 pub(crate) enum Task<'w> {
     Found {
         document: [u8; 16],
@@ -31,34 +32,66 @@ pub(crate) enum Task<'w> {
         name: &'w str,
         edit: EditWords<'w>,
     },
+    Ack {
+        name: &'w str,
+    },
     Show {
         name: &'w str,
     },
     Items {
         name: &'w str,
     },
+    Bundle {
+        name: &'w str,
+        vector: Vector,
+        new_name: &'w str,
+    },
+    Deliver {
+        name: &'w str,
+        offered: &'w str,
+    },
 }
 
 impl<'w> Task<'w> {
-    /// The file that the command reads.
-    pub(crate) fn input(self) -> Option<Named<'w>>
-        ensures { (order : Order) → Does self.entry order → option_map named_of result ≡ (roles order).input }
+    /// The file that the command reads, or the first of two.
+    pub(crate) fn input(&self) -> Option<Named<'w>>
+        ensures { (order : Order) → Does self.now order → option_map named_of result ≡ (roles order).input }
     {
-        match self {
+        match *self {
             Task::Found { .. } => None,
-            Task::Edit { name, .. } | Task::Show { name } | Task::Items { name } => {
-                Some(Named { word: 1, name })
-            }
+            Task::Edit { name, .. }
+            | Task::Ack { name }
+            | Task::Show { name }
+            | Task::Items { name }
+            | Task::Bundle { name, .. }
+            | Task::Deliver { name, .. } => Some(Named { word: 1, name }),
+        }
+    }
+
+    /// The second file that the command reads.
+    pub(crate) fn second(&self) -> Option<Named<'w>>
+        ensures { (order : Order) → Does self.now order → option_map named_of result ≡ (roles order).second }
+    {
+        match *self {
+            Task::Deliver { offered, .. } => Some(Named {
+                word: 2,
+                name: offered,
+            }),
+            _ => None,
         }
     }
 
     /// The name that the command gives to a new file.
-    pub(crate) fn new_name(self) -> Option<Named<'w>>
-        ensures { (order : Order) → Does self.entry order → option_map named_of result ≡ (roles order).new }
+    pub(crate) fn new_name(&self) -> Option<Named<'w>>
+        ensures { (order : Order) → Does self.now order → option_map named_of result ≡ (roles order).new }
     {
-        match self {
+        match *self {
             Task::Found { name, .. } => Some(Named { word: 3, name }),
-            Task::Edit { .. } | Task::Show { .. } | Task::Items { .. } => None,
+            Task::Bundle { new_name, .. } => Some(Named {
+                word: 3,
+                name: new_name,
+            }),
+            _ => None,
         }
     }
 }
@@ -78,18 +111,7 @@ fn is_untaken(word: &str) -> bool
 {
     matches!(
         word,
-        "ack"
-            | "status"
-            | "log"
-            | "bundle"
-            | "deliver"
-            | "trim"
-            | "snapshot"
-            | "release"
-            | "begin"
-            | "check"
-            | "play"
-            | "sample"
+        "status" | "log" | "trim" | "snapshot" | "release" | "begin" | "check" | "play" | "sample"
     )
 }
 
@@ -100,74 +122,84 @@ pub(crate) fn take<'w>(command: Command<'w>) -> Result<Task<'w>, Status>
 {
     // Stands in an edit for the value that a word gives.
     let value = Value::Null;
-    let task = match command {
-        Command::Found { doc, n, name } => Task::Found {
+    match command {
+        Command::Found { doc, n, name } => Ok(Task::Found {
             document: doc,
             members: n,
             name,
-        },
-        Command::New { name, parent, i } => plain(name, Edit::New { parent, at: i }),
+        }),
+        Command::New { name, parent, i } => Ok(plain(name, Edit::New { parent, at: i })),
         Command::Move {
             name,
             child,
             parent,
             i: at,
-        } => plain(name, Edit::Move { child, parent, at }),
-        Command::Trash { name, child } => plain(name, Edit::Trash { child }),
+        } => Ok(plain(name, Edit::Move { child, parent, at })),
+        Command::Trash { name, child } => Ok(plain(name, Edit::Trash { child })),
         Command::Put {
             name,
             node,
             key,
             value: word,
-        } => valued(name, Edit::Put { node, key, value }, word),
-        Command::Unset { name, node, key } => plain(name, Edit::Unset { node, key }),
+        } => Ok(valued(name, Edit::Put { node, key, value }, word)),
+        Command::Unset { name, node, key } => Ok(plain(name, Edit::Unset { node, key })),
         Command::TypeText {
             name,
             node,
             at,
             text,
-        } => plain(name, Edit::TypeText { node, at, text }),
+        } => Ok(plain(name, Edit::TypeText { node, at, text })),
         Command::Erase {
             name,
             node,
             at,
             count,
-        } => plain(name, Edit::Erase { node, at, count }),
+        } => Ok(plain(name, Edit::Erase { node, at, count })),
         Command::Add {
             name,
             node,
             at,
             value: word,
-        } => valued(name, Edit::Add { node, at, value }, word),
+        } => Ok(valued(name, Edit::Add { node, at, value }, word)),
         Command::Shift {
             name,
             node,
             from,
             to,
-        } => plain(name, Edit::Shift { node, from, to }),
+        } => Ok(plain(name, Edit::Shift { node, from, to })),
         Command::Set {
             name,
             node,
             at,
             value: word,
-        } => valued(name, Edit::Set { node, at, value }, word),
-        Command::DropItem { name, node, at } => plain(name, Edit::Drop { node, at }),
-        Command::Show { name } => Task::Show { name },
-        Command::Items { name } => Task::Items { name },
-        Command::Ack { .. }
-        | Command::Status { .. }
+        } => Ok(valued(name, Edit::Set { node, at, value }, word)),
+        Command::DropItem { name, node, at } => Ok(plain(name, Edit::Drop { node, at })),
+        Command::Ack { name } => Ok(Task::Ack { name }),
+        Command::Show { name } => Ok(Task::Show { name }),
+        Command::Items { name } => Ok(Task::Items { name }),
+        Command::Bundle {
+            name,
+            vector,
+            out: new_name,
+        } => Ok(Task::Bundle {
+            name,
+            vector,
+            new_name,
+        }),
+        Command::Deliver {
+            name,
+            bundle: offered,
+        } => Ok(Task::Deliver { name, offered }),
+        Command::Status { .. }
         | Command::Log { .. }
-        | Command::Bundle { .. }
-        | Command::Deliver { .. }
         | Command::Trim { .. }
         | Command::Snapshot { .. }
         | Command::Release { .. }
         | Command::Begin { .. }
         | Command::Check { .. }
         | Command::Play { .. }
-        | Command::Sample { .. } => return Err(Status::NotBuilt { word: 0 }),
-    };
-    Ok(task)
+        | Command::Sample { .. } => Err(Status::NotBuilt { word: 0 }),
+    }
 }
 
 /// The task of an edit that has no value.

@@ -1,6 +1,6 @@
 use crate::files::{
-    DOCUMENT, KEY_UNSET, LONGER_COUNT, MADE_BY_SECOND, NO_CHANGE, NOBODY, ONE_KEY, ONE_KEY_TEXT,
-    SECOND, SECOND_WITH_KEY,
+    ACKNOWLEDGED, DOCUMENT, KEY_UNSET, LONGER_COUNT, MADE_BY_SECOND, NO_CHANGE, NOBODY, ONE_KEY,
+    ONE_KEY_TEXT, PUT_BY_BOTH, SECOND, SECOND_WITH_KEY,
 };
 use crate::runs::{NO_FAULTS, Step, take, take_with};
 use cbor_det::{CborFault, Why};
@@ -44,8 +44,6 @@ fn founds_puts_and_unsets(rt: HostRuntime) -> Result<(), Fail> {
     Ok(())
 }
 
-const NOT_BUILT: Status = Status::NotBuilt { word: 1 };
-
 const NOT_SHORTEST: Status = Status::BadFile {
     word: 1,
     why: BadFile::Cbor(CborFault {
@@ -82,7 +80,20 @@ const FILES: &[(&[u8], &[&str], Status, &str, &[u8])] = &[
         ONE_KEY_TEXT,
         MADE_BY_SECOND,
     ),
-    (MADE_BY_SECOND, PUT, NOT_BUILT, "", MADE_BY_SECOND),
+    (
+        MADE_BY_SECOND,
+        PUT,
+        Status::Done,
+        "made 0 1 2\n",
+        PUT_BY_BOTH,
+    ),
+    (
+        NO_CHANGE,
+        &["ack", "a"],
+        Status::Done,
+        "made 0 1 1\nmade 1 1 2\n",
+        ACKNOWLEDGED,
+    ),
     (
         NOBODY,
         &["show", "a"],

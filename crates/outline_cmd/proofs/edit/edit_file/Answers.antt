@@ -1,42 +1,64 @@
-use Rattle.std.proofs.Common.{refl, sym, subst, ◌∙◌}
+use Rattle.std.proofs.Common.{Err, length, refl, sym, ap, subst, ◌∙◌}
 use Rattle.std.proofs.lemmas.Result.{err_from_is_err_and}
-use Rattle.model.specs.Command.{edit}
+use Rattle.model.specs.Command.{made_edit}
 use Rattle.model.specs.Edit.{Edit}
+use Rattle.model.specs.File.{File}
+use Rattle.model.specs.Reading.{held_in}
+use Rattle.doc_store.specs.Edits.{edit_of}
 use Rattle.keeping_laws.specs.Forms.{IsEdit}
-use Rattle.outline_words.specs.Table.{command}
-use Rattle.outline_cmd.specs.Edits.{edited_in}
-use Rattle.outline_cmd.specs.Meaning.{exactly, member_files}
-use Rattle.outline_cmd.specs.Stages.{answer_of, Follows}
-use Rattle.outline_cmd.specs.Tasks.{GivesValue, order_made_of}
+use Rattle.replica.specs.declared.head.FileHead.{FileHead}
+use Rattle.member_replica.specs.Making.{Makes}
+use Rattle.outline_cmd.specs.Meaning.{member_files, reads}
+use Rattle.model.specs.Stands.{IsStored}
+use Rattle.outline_cmd.specs.Made.{made_outcome}
+use Rattle.outline_cmd.specs.Outcome.{edited}
+use Rattle.outline_cmd.specs.Tasks.{GivesValue}
+use Rattle.outline_cmd.specs.declared.status.Status.TheVariants as s
+use Rattle.replica.specs.declared.fault.MemberFault.TheVariants.{Nobody}
+use Rattle.outline_cmd.proofs.InputLaws.{input_refuses, input_follows, same_follows, edit_nobody, edit_somebody, edit_unfit, edit_is}
 use Rattle.outline_cmd.proofs.LedgerMeaning.{edit_form}
-use Rattle.outline_cmd.proofs.LinkLaws.{edit_refuses, edit_means}
-use Rattle.outline_cmd.proofs.MadeLaws.{single_of}
-use Rattle.outline_cmd.proofs.OpenLaws.{not_among_members, opened_based, is_taken_file}
-use Rattle.outline_cmd.proofs.StageLaws.{follows_by}
+use Rattle.outline_cmd.proofs.OpenLaws.{not_among_members, opened_based}
 use Rattle.outline_cmd.proofs.edit.edit_file.Goals as goal
 
 pub returns-in_err-parts : goal.returns-in_err-parts
-returns-in_err-parts c = λ e says form.
+returns-in_err-parts c = λ e second says form.
     let p = err_from_is_err_and c.from_residual.result c.from_residual.ensures.1 in
-    rw (p.1, p.2) (edit_refuses c.args.name.now c.args.bytes.now e c.in_err-parts.field-0.0 c.requires.short (c.in_err-parts.ensures.told member_files refl))
+    rw (p.1, p.2) (input_refuses (reads c.args.name.now) member_files c.args.bytes.now second (edited e) c.in_err-parts.field-0.0 c.requires.short (c.in_err-parts.ensures.told member_files refl))
 
-pub edit_parts-requires-clause-taken : goal.edit_parts-requires-clause-taken
-edit_parts-requires-clause-taken c =
+pub replica_of-requires : goal.replica_of-requires
+replica_of-requires c = opened_based 1 c.args.bytes.now member_files c.in_ok-parts.parts not_among_members (c.in_ok-parts.ensures.told member_files refl)
+
+pub returns-then-len-eq0 : goal.returns-then-len-eq0
+returns-then-len-eq0 c = λ e second says form.
     let f = c.in_ok-parts.parts in
-    is_taken_file 1 c.args.bytes.now f c.in_ok-parts.ensures.is (opened_based 1 c.args.bytes.now member_files f not_among_members (c.in_ok-parts.ensures.told member_files refl))
+    let none = sym (ap (λ (h : FileHead). length h.mine) c.head.ensures.head) ∙ sym c.len.ensures ∙ c.if-len-eq0.true in
+    input_follows (reads c.args.name.now) member_files c.args.bytes.now second (edited e) f (Err (s.Member Nobody)) c.requires.short (c.in_ok-parts.ensures.told member_files refl)
+    (edit_nobody (reads c.args.name.now) f e none)
 
-pub edit_parts-requires-clause-form : goal.edit_parts-requires-clause-form
-edit_parts-requires-clause-form c =
+pub returns-in_err-replica : goal.returns-in_err-replica
+returns-in_err-replica c = λ e second says form.
+    let p = err_from_is_err_and c.from_residual-in_err-replica.result c.from_residual-in_err-replica.ensures.1 in
+    let f = c.in_ok-parts.parts in
+    let some = edit_somebody f (λ none. c.if-len-eq0.false (c.len.ensures ∙ ap (λ (h : FileHead). length h.mine) c.head.ensures.head ∙ none)) in
+    rw (p.1, p.2) (input_follows (reads c.args.name.now) member_files c.args.bytes.now second (edited e) f (Err c.in_err-replica.field-0.0) c.requires.short (c.in_ok-parts.ensures.told member_files refl)
+    (edit_unfit (reads c.args.name.now) f e c.in_err-replica.field-0.0 some c.in_err-replica.ensures.told))
+
+pub edit-made-requires-clause-form : goal.edit-made-requires-clause-form
+edit-made-requires-clause-form c =
     let (e, (said, says, word, is), form) = c.requires.said in
     let given = c.edit.ensures said says (subst (GivesValue c.args.words.value said) (sym c.deref.ensures.value) (c.in_ok-given.ensures.ok said says word)) in
     subst IsEdit (is ∙ sym given) (edit_form e form)
 
+pub edit-made-requires-clause-stored : goal.edit-made-requires-clause-stored
+edit-made-requires-clause-stored c = (c.args.bytes.now, subst (IsStored c.args.bytes.now) (sym c.in_ok-replica.ensures.is) c.in_ok-parts.ensures.is.stored)
+
 pub returns : goal.returns
-returns c = λ e (said, says, word, same) form.
-    let bytes = c.args.bytes.now in
+returns c = λ e second (said, says, word, same) form.
     let f = c.in_ok-parts.parts in
-    let opens = c.in_ok-parts.ensures.told member_files refl in
-    let single = single_of f (is_taken_file 1 bytes f c.in_ok-parts.ensures.is (opened_based 1 bytes member_files f not_among_members opens)) in
+    let r = reads c.args.name.now in
+    let some = edit_somebody f (λ none. c.if-len-eq0.false (c.len.ensures ∙ ap (λ (h : FileHead). length h.mine) c.head.ensures.head ∙ none)) in
     let is = c.edit.ensures said says (subst (GivesValue c.args.words.value said) (sym c.deref.ensures.value) (c.in_ok-given.ensures.ok said says word)) ∙ sym same in
-    follows_by answer_of (exactly (edited_in c.args.name.now f e)) (order_made_of (command (edit c.args.name.now e)) bytes) c.edit_parts.result (edit_means c.args.name.now bytes e f c.requires.short opens single)
-    (subst (λ (x : Edit). Follows answer_of c.edit_parts.result (exactly (edited_in c.args.name.now f x))) is c.edit_parts.ensures)
+    let makes = subst (λ (x : Edit). Makes f (made_edit f.members (held_in f) f.mine x) c.edit-made.result) is (subst (λ (g : File). Makes g (made_edit g.members (held_in g) g.mine (edit_of c.edit.result)) c.edit-made.result) c.in_ok-replica.ensures.is c.edit-made.ensures) in
+    input_follows r member_files c.args.bytes.now second (edited e) f c.made_answer.result c.requires.short (c.in_ok-parts.ensures.told member_files refl)
+    (same_follows r (made_outcome f (made_edit f.members (held_in f) f.mine e)) (edited e f) c.made_answer.result (edit_is f e some c.in_ok-replica.ensures.told)
+    (c.made_answer.ensures f (made_edit f.members (held_in f) f.mine e) makes))

@@ -1,0 +1,23 @@
+//! Whether two documents are the same one.
+
+ghost use Rattle.std.specs.Prelude.{◌≡◌, IfOk};
+ghost use Rattle.model.specs.File.{File};
+ghost use Rattle.outline_cmd.specs.Meaning.{exactly};
+ghost use Rattle.outline_cmd.specs.Outcome.{document_ref, same_document};
+ghost use Rattle.outline_cmd.specs.Stages.{Follows};
+
+use crate::status::Status;
+use replica::DocRef;
+
+/// Finds that the document of a file is this other one.
+pub(crate) fn check_document(left: DocRef, right: DocRef) -> Result<(), Status>
+    ensures told { (f : File) → left ≡ document_ref f.document f.members
+        → Follows (λ u. u) result (exactly (same_document f right.id right.n)) }
+    ensures same { IfOk result (λ u. left.n ≡ right.n) }
+{
+    if left == right {
+        Ok(())
+    } else {
+        Err(Status::OtherDocument { left, right })
+    }
+}
