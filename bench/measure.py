@@ -18,18 +18,24 @@ ENOUGH_SECONDS = 10
 TOP = os.path.dirname(os.path.dirname(os.path.realpath(__file__)))
 
 
+def run_once(words, folder):
+    """Runs the words: the seconds, the memory in bytes, the status. The print is in `printed`."""
+    with open(f"{folder}/printed", "wb") as printed:
+        run = subprocess.Popen(words, cwd=folder, stdin=subprocess.DEVNULL, stdout=printed)
+        _, ended, used = os.wait4(run.pid, 0)
+    run.returncode = os.waitstatus_to_exitcode(ended)
+    return used.ru_utime + used.ru_stime, used.ru_maxrss * 1024, run.returncode
+
+
 def measure(words, folder, prepare=lambda: None):
     """Runs the words some times, each after what `prepare` does: the least seconds, the most memory in bytes, the last
     status. The last print is in `printed`."""
     times, memory, status = [], 0, 0
     while len(times) < RUNS and sum(times) < ENOUGH_SECONDS:
         prepare()
-        with open(f"{folder}/printed", "wb") as printed:
-            run = subprocess.Popen(words, cwd=folder, stdin=subprocess.DEVNULL, stdout=printed)
-            _, ended, used = os.wait4(run.pid, 0)
-        run.returncode = status = os.waitstatus_to_exitcode(ended)
-        times.append(used.ru_utime + used.ru_stime)
-        memory = max(memory, used.ru_maxrss * 1024)
+        seconds, used, status = run_once(words, folder)
+        times.append(seconds)
+        memory = max(memory, used)
     return min(times), memory, status
 
 

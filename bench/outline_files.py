@@ -3,6 +3,8 @@
 A file is a sequence of CBOR items (RFC 8949 section 3, RFC 8742), each number and length in its shortest form.
 """
 
+import functools
+
 LARGEST_FILE = 16_777_216
 LARGEST_BODY = 1_048_576
 LARGEST_WIDTH = 65_536
@@ -11,6 +13,7 @@ UNSIGNED, NEGATIVE, BYTES, TEXT, ARRAY, MAP, TAG = range(7)
 NULL, FALSE, TRUE = b"\xf6", b"\xf4", b"\xf5"
 
 
+@functools.lru_cache(maxsize=1 << 18)
 def head(major, argument):
     """The first bytes of an item: its major type and its argument."""
     if argument < 24:
@@ -67,9 +70,9 @@ def operation(kind, *fields):
     return head(ARRAY, 1 + len(fields)) + number(kind) + b"".join(map(field, fields))
 
 
-def change(member, count, time, members, operations, width=None):
-    """The member's change number `count`, which knows no change of another member. Without `width` each operation has width 1."""
-    causes = array([number(count - 1 if it == member else 0) for it in range(members)])
+def change(member, count, time, members, operations, width=None, known=0):
+    """The member's change number `count`, which knows so many changes of each other member. Without `width` each operation has width 1."""
+    causes = array([number(count - 1 if it == member else known) for it in range(members)])
     ids = len(operations) if width is None else width
     body = octets(b"".join(operations))
     return array([number(member), number(count), number(time), causes, number(len(operations)), number(ids), body])
