@@ -1,3 +1,4 @@
 pub mod LogLaws
 pub mod SortLaws
 pub mod StepLaws
+pub mod OpenLaws

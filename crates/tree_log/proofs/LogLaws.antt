@@ -1,5 +1,5 @@
 -- The laws of moves put in their places.
-use Rattle.std.specs.Prelude.{◌≡◌, ℕ, zero, suc, Bool, true, false, cond, ◌||◌, Some, is_some, List, [], ◌∷◌, ◌++◌, ◌+◌, ◌≤◌, length, count_by, refl}
+use Rattle.std.specs.Prelude.{◌≡◌, ℕ, zero, suc, Bool, true, false, cond, ◌||◌, None, Some, is_some, List, [], ◌∷◌, ◌++◌, ◌+◌, ◌≤◌, length, count_by, refl}
 use Rattle.std.proofs.Common.{sym, ◌∙◌, ap, subst, inl, inr, arith, ⊎_elim}
 use Rattle.std.specs.Prelude.{drop, take, ◌<◌, ◌-◌, nat_lt, nat_le, filter}
 use Rattle.std.proofs.lemmas.Bool.Decides.{nat_tests}
@@ -109,13 +109,13 @@ any_put q x (t ∷ ts) =
       | false ↦ refl
     ]
 
-all_after : (i : OpId) (t : TreeMove) (ts : List TreeMove) → id_lt t.id i ≡ false → AllByRecursion (λ u. id_lt t.id u.id ≡ true) ts → AllByRecursion (λ u. id_lt u.id i ≡ false) ts
+pub all_after : (i : OpId) (t : TreeMove) (ts : List TreeMove) → id_lt t.id i ≡ false → AllByRecursion (λ u. id_lt t.id u.id ≡ true) ts → AllByRecursion (λ u. id_lt u.id i ≡ false) ts
 all_after i t [] e h = tt
 all_after i t (u ∷ ts) e h =
     (⊎_elim (λ k. true_false (id_lt t.id i) (lt_trans t.id u.id i h.0 k) e) (λ k. k) (bool_cases (id_lt u.id i)), all_after i t ts e h.1)
 
 -- moves of no lesser ids make no node of a lesser id known
-known_early : (known : OpId → Bool) (ts : List TreeMove) (i q : OpId) → AreMovesIn known ts → AllByRecursion (λ u. id_lt u.id i ≡ false) ts → id_lt q i ≡ true → nodes_after known ts q ≡ true → known q ≡ true
+pub known_early : (known : OpId → Bool) (ts : List TreeMove) (i q : OpId) → AreMovesIn known ts → AllByRecursion (λ u. id_lt u.id i ≡ false) ts → id_lt q i ≡ true → nodes_after known ts q ≡ true → known q ≡ true
 known_early known [] i q f a l k = ⊎_elim (λ e. e) (λ e. cc) (or_cases (known q) false k)
 known_early known (t ∷ ts) i q f a l k =
     let k' : nodes_after (with_child known t.child) ts q ≡ true = or_assoc (known q) (id_eq q t.child) _ ∙ k in
@@ -160,7 +160,7 @@ fresh_put ts [] x l f = tt
 fresh_put ts (y ∷ ys) x l f =
     (all_put (λ t. id_eq t.id y.id ≡ false) x ts (lt_apart_ids x.id y.id l.0) f.0, fresh_put ts ys x l.1 f.1)
 
-wider_put : (known : OpId → Bool) (ts : List TreeMove) (x : TreeMove) (q : OpId) → with_child (nodes_after known ts) x.child q ≡ true → nodes_after known (put_in x ts) q ≡ true
+pub wider_put : (known : OpId → Bool) (ts : List TreeMove) (x : TreeMove) (q : OpId) → with_child (nodes_after known ts) x.child q ≡ true → nodes_after known (put_in x ts) q ≡ true
 wider_put known ts x q e =
     rw (any_put q x ts)
     (⊎_elim
@@ -391,6 +391,9 @@ no_id = record { time = 0; member = 0; index = 0 }
 
 abbrev pub no_move : TreeMove
 no_move = record { id = no_id; child = no_id; parent = no_id }
+
+abbrev pub no_held : Held
+no_held = record { step = no_move; before = None }
 
 pub at_defaults : (ts xs : List TreeMove) (i j : ℕ) (d : TreeMove) (b : Bool) → i < length ts → j < length xs → id_lt (get_or ts i no_move).id (get_or xs j no_move).id ≡ b → id_lt (get_or ts i d).id (get_or xs j d).id ≡ b
 at_defaults ts xs i j d b l k e =

@@ -2,3 +2,4 @@ pub mod Moves
 pub mod Log
 pub mod Merge
 pub mod Steps
+pub mod Open

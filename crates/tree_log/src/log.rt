@@ -3,9 +3,10 @@ ghost use Rattle.std.specs.Prelude.{◌≡◌, ◌+◌, ◌*◌, OnOk, OnErr, If
 ghost use Rattle.std.specs.List.{AllByRecursion};
 ghost use Rattle.std.specs.FinSet as set;
 ghost use Rattle.model.specs.State.{is_fixed};
+ghost use Rattle.model_laws.specs.Tree.{IsTree};
 ghost use Rattle.tree_move.specs.Parents.{IsTreeOfAdmitted};
 ghost use Rattle.tree_log.specs.declared.moves.TreeMove.{TreeMove};
-ghost use Rattle.tree_log.specs.Log.{steps};
+ghost use Rattle.tree_log.specs.Log.{steps, AreMovesIn};
 ghost use Rattle.tree_log.specs.Moves.{inserted, Rises, IsFresh, AllReferBack, has_place, after_moves, places_now, later_count, Worked};
 
 use crate::merge::{first_later, redo, undo_from};
@@ -17,7 +18,7 @@ use std::marker::Model;
 use tree_move::Parents;
 
 #[cfg(test)]
-mod tests;
+pub(crate) mod tests;
 
 /// Moves by their ids, and the places after them.
 ///
@@ -60,10 +61,13 @@ impl TreeLog {
         }
     }
 
-    /// The places after all held moves, done by rising id over the places that the log began from.
+    /// The places after all held moves, done by rising id over the places that the log began from. Each move refers to nodes that
+    /// are there.
     pub fn parents(&self) -> &Parents
         ensures places { result.now.places ≡ after_moves self.now.base self.now.moves }
         ensures rising { Rises self.now.moves }
+        ensures base { IsTree self.now.base }
+        ensures fits { AreMovesIn (has_place self.now.base) self.now.moves }
         ensures tree { IsTreeOfAdmitted result.now }
     {
         &self.parents

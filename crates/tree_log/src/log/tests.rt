@@ -1,33 +1,34 @@
 // What no clause says: that each call succeeds where memory is ample. A move is tried where its conditions hold.
-ghost use Rattle.std.specs.Prelude.{◌≡◌, ◌&&◌};
-ghost use Rattle.std.specs.Bool.{OnTrue};
+ghost use Rattle.std.specs.Prelude.{◌≡◌, Bool};
+ghost use Rattle.std.specs.Bool.{OnTrue, OnFalse};
 ghost use Rattle.std.specs.List.{list_any};
-ghost use Rattle.op_ids.specs.Order.{id_eq, id_lt};
+ghost use Rattle.op_ids.specs.declared.OpId.{OpId};
+ghost use Rattle.op_ids.specs.Order.{id_eq};
 ghost use Rattle.model.specs.State.{is_fixed};
 ghost use Rattle.tree_log.specs.declared.moves.Held.{Held};
-ghost use Rattle.tree_log.specs.Moves.{has_place, RefersBack};
+ghost use Rattle.tree_log.specs.Moves.{IsFresh, Rises, RefersBack};
 
 use super::*;
 use op_ids::{OpId, TRASH};
 use std::test::Fail;
 
-const A: OpId = OpId {
+pub(crate) const A: OpId = OpId {
     time: 1,
     member: 0,
     index: 0,
 };
 
-const B: OpId = OpId { time: 2, ..A };
+pub(crate) const B: OpId = OpId { time: 2, ..A };
 
-const C: OpId = OpId { time: 3, ..A };
+pub(crate) const C: OpId = OpId { time: 3, ..A };
 
-const NEW_A: TreeMove = TreeMove {
+pub(crate) const NEW_A: TreeMove = TreeMove {
     id: A,
     child: A,
     parent: ROOT,
 };
 
-const NEW_B: TreeMove = TreeMove {
+pub(crate) const NEW_B: TreeMove = TreeMove {
     id: B,
     child: B,
     parent: ROOT,
@@ -46,12 +47,12 @@ const SECOND: OpId = OpId { member: 1, ..FIRST };
 const THIRD: OpId = OpId { member: 2, ..FIRST };
 
 // moves by rising ids, and each node with its parent after them
-struct Case {
-    moves: [TreeMove; 6],
-    parents: [(OpId, OpId); 3],
+pub(crate) struct Case {
+    pub(crate) moves: [TreeMove; 6],
+    pub(crate) parents: [(OpId, OpId); 3],
 }
 
-const CASES: [Case; 3] = [
+pub(crate) const CASES: [Case; 3] = [
     // two nodes each below the other: the second move has no effect
     Case {
         moves: [
@@ -127,7 +128,7 @@ const CASES: [Case; 3] = [
 ];
 
 // a change that makes a node and another one below it
-const CHANGE: [TreeMove; 2] = [
+pub(crate) const CHANGE: [TreeMove; 2] = [
     NEW_A,
     TreeMove {
         id: OpId { index: 1, ..A },
@@ -148,27 +149,38 @@ fn is_top(node: OpId) -> bool
     node == ROOT || node == TRASH
 }
 
-fn is_lesser_node(parents: &Parents, node: OpId, id: OpId) -> bool
-    ensures { result ≡ (has_place parents.now.places node && id_lt node id) }
-{
-    parents.parent_of(node).is_some() && node.is_before(id)
-}
-
-fn refers_back(parents: &Parents, step: TreeMove) -> bool
-    ensures { OnTrue result (RefersBack (has_place parents.now.places) step) }
+// Whether a move refers back where its parent and its child are nodes or aren't.
+pub(crate) fn refers_back(step: TreeMove, has_parent: bool, has_child: bool) -> bool
+    ensures { (nodes : OpId → Bool) → nodes step.parent ≡ has_parent
+        → nodes step.child ≡ has_child
+        → OnTrue result (RefersBack nodes step) }
 {
     if is_top(step.child) {
         return false;
     }
-    if !is_top(step.parent) && !is_lesser_node(parents, step.parent, step.id) {
+    if !is_top(step.parent) && !(has_parent && step.parent.is_before(step.id)) {
         return false;
     }
-    step.child == step.id || is_lesser_node(parents, step.child, step.id)
+    step.child == step.id || (has_child && step.child.is_before(step.id))
+}
+
+// Whether a move of the log has the id.
+pub(crate) fn is_held(log: &TreeLog, id: OpId) -> bool
+    ensures fresh { OnFalse result (IsFresh log.now.moves id) }
+    ensures rising { Rises log.now.moves }
+{
+    has_id(&log.held, id)
 }
 
 // Takes in a move if it refers back and is not held yet.
-fn try_insert(log: &mut TreeLog, step: TreeMove, tally: &mut Tally) -> Result<bool, AllocError> {
-    if has_id(&log.held, step.id) || !refers_back(&log.parents, step) {
+pub(crate) fn try_insert(
+    log: &mut TreeLog,
+    step: TreeMove,
+    tally: &mut Tally,
+) -> Result<bool, AllocError> {
+    let has_parent = log.parents().parent_of(step.parent).is_some();
+    let has_child = log.parents().parent_of(step.child).is_some();
+    if is_held(log, step.id) || !refers_back(step, has_parent, has_child) {
         return Ok(false);
     }
     log.insert(&[step], tally)?;
@@ -176,7 +188,7 @@ fn try_insert(log: &mut TreeLog, step: TreeMove, tally: &mut Tally) -> Result<bo
 }
 
 // Takes in moves in this order. One that refers to a node that isn't there yet waits for the next round.
-fn arrived(alloc: Global, moves: &[TreeMove]) -> Result<TreeLog, AllocError> {
+pub(crate) fn arrived(alloc: Global, moves: &[TreeMove]) -> Result<TreeLog, AllocError> {
     let mut tally = Tally::new();
     let mut log = TreeLog::from_parents(alloc, Parents::new(alloc));
     for _ in 0..moves.len() {
@@ -224,7 +236,7 @@ fn replayed(moves: &[TreeMove]) -> [(OpId, OpId); 3] {
 }
 
 // The order of this number, of 720.
-fn shuffled(moves: &[TreeMove; 6], number: usize) -> [TreeMove; 6] {
+pub(crate) fn shuffled(moves: &[TreeMove; 6], number: usize) -> [TreeMove; 6] {
     let mut moves = *moves;
     let mut rest = number;
     for k in 1..7usize {

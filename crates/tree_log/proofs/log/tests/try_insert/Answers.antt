@@ -1,21 +1,14 @@
-use Rattle.std.proofs.Common.{◌≡◌, ◌∙◌, ap, sym, subst, Bool, true, false, List, [], ◌∷◌, ◌||◌, refl}
-use Rattle.std.specs.List.{list_any}
-use Rattle.op_ids.specs.declared.OpId.{OpId}
-use Rattle.op_ids.specs.Order.{id_eq}
-use Rattle.tree_log.specs.declared.moves.Held.{Held}
-use Rattle.tree_log.specs.Log.{steps}
-use Rattle.tree_log.specs.Moves.{IsFresh, Log}
+use Rattle.std.proofs.Common.{◌≡◌, ◌∙◌, ap, sym, is_some}
+use Rattle.std.specs.FinMap.{get}
+use Rattle.model_laws.specs.Tree.{Places}
+use Rattle.tree_log.specs.Moves.{has_place, places_now}
+use Rattle.tree_move.proofs.PlaceLaws.{some-place_if}
 use Rattle.tree_log.proofs.log.tests.try_insert.Goals as goal
 
-neither : (a b : Bool) → (a || b) ≡ false → (a ≡ false) × (b ≡ false)
-neither true b e = let k : true ≡ false = e in cc
-neither false b e = (refl, e)
-
-fresh_from_held : (hs : List Held) (id : OpId) → list_any (λ (h : Held). id_eq h.step.id id) hs ≡ false → IsFresh (steps hs) id
-fresh_from_held [] id e = tt
-fresh_from_held (h ∷ hs) id e = let k = neither _ _ e in (k.0, fresh_from_held hs id k.1)
-
-pub insert-requires-clause-fresh : goal.insert-requires-clause-fresh
-insert-requires-clause-fresh c =
-    let none = ap (list_any (λ (h : Held). id_eq h.step.id c.args.step.id)) (sym c.deref.ensures.value) ∙ sym c.has_id.ensures ∙ c.if-has_id.false in
-    (subst (λ (l : Log). IsFresh l.moves c.args.step.id) c.log.view_is (fresh_from_held c.log.inside.held.items c.args.step.id none), tt)
+pub insert-requires-clause-refer : goal.insert-requires-clause-refer
+insert-requires-clause-refer c =
+    let parent : has_place (places_now c.args.log.now) c.args.step.parent ≡ c.is_some-has_parent.result =
+    ap (λ (m : Places). is_some (get m c.args.step.parent)) (sym c.parents.ensures.places) ∙ ap is_some (sym c.parent_of.ensures.place) ∙ some-place_if c.parent_of.result ∙ sym c.is_some-has_parent.ensures in
+    let child : has_place (places_now c.args.log.now) c.args.step.child ≡ c.is_some-has_child.result =
+    ap (λ (m : Places). is_some (get m c.args.step.child)) (sym c.parents-2.ensures.places) ∙ ap is_some (sym c.parent_of-2.ensures.place) ∙ some-place_if c.parent_of-2.result ∙ sym c.is_some-has_child.ensures in
+    (c.if-not-refers_back.ensures (has_place (places_now c.args.log.now)) parent child, tt)
