@@ -6,14 +6,16 @@ use Rattle.std.specs.FinMap.{FinMap, get}
 use Rattle.op_ids.specs.declared.OpId.{OpId}
 use Rattle.op_ids.specs.Order.{id_eq}
 use Rattle.op_ids.proofs.OrderLaws.{id_eq-itself, lt_apart, lt_itself}
-use Rattle.model.specs.State.{State, Atom, names_what_is_there, row_cmp, node_step, position_step, text_step, list_position_step, element_step}
+use Rattle.model.specs.State.{State, Atom, empty_state, names_what_is_there, row_cmp, node_step, position_step, text_step, list_position_step, element_step}
 use Rattle.model_laws.specs.Arrival.{AreBelow, IsFresh, IsSingle, Rises, atom_before}
 use Rattle.model_laws.proofs.ArrivalLaws.{GoodAlong, after_done, all_done, done_one, good_along}
 use Rattle.model_laws.proofs.ListLaws.{all_both, all_more}
 use Rattle.model_laws.proofs.Presence.{NewOrThere, child_there, element_new, list_new, node_new, position_new, text_new}
 use Rattle.model_laws.proofs.Tables.{bool_cases, is_none}
+use Rattle.arrival_laws.proofs.DocumentLaws.{empty_below}
 use Rattle.arrival_laws.proofs.ReferLaws.{AllSingle, RightAlong}
-use Rattle.doc_store.specs.Documents.{FreshIdsHaveNoRow, HasNoRow}
+use Rattle.doc_store.specs.Documents.{FreshIdsHaveNoRow, HasNoRow, IsDocument}
+use Rattle.doc_store.specs.Kept.{Kept, state_of}
 
 none_from : {X : Type 0} (o : Option X) → (is_some o ≡ true → true ≡ false) → o ≡ None
 none_from o h = elim (bool_cases (is_some o)) as (λ _. o ≡ None) [ inl e ↦ (let no : true ≡ false = h e in absurd (let d : true ≡ false = no in cc)) | inr e ↦ is_none o e ]
@@ -62,3 +64,8 @@ pub fresh_ids_have_no_row : FreshIdsHaveNoRow
 fresh_ids_have_no_row s list id m b f =
     let good = good_along s list m in
     subst (λ u. HasNoRow u id) (sym (after_done s list good)) (unused_along s list id good f (no_row_below s id b))
+
+-- ids that aren't of a document's operations are no row's of it
+pub free_in : (d : Kept) (list xs : List Atom) → IsDocument d empty_state list → AllByRecursion (λ a. IsFresh list a.id) xs → AllByRecursion (λ a. HasNoRow (state_of d) a.id) xs
+free_in d list xs is f =
+    all_more (λ a. IsFresh list a.id) (λ a. HasNoRow (state_of d) a.id) (λ a k. subst (λ u. HasNoRow u a.id) (sym is.state) (fresh_ids_have_no_row empty_state list a.id is.made_of (empty_below a.id) k)) xs f

@@ -8,9 +8,9 @@ use Rattle.std.specs.FinMap.{FinMap, get, insert, get-insert}
 use Rattle.op_ids.specs.declared.OpId.{OpId}
 use Rattle.op_ids.specs.Order.{id_cmp, id_eq, id_lt, id_plus}
 use Rattle.op_ids.proofs.OrderLaws.{eq_by_cmp-id, id_equiv, same_or_apart}
-use Rattle.model.specs.Held.{wrong_ids}
+use Rattle.model.specs.Held.{wrong_ids, wrong_references}
 use Rattle.model.specs.Operation.{Anchor, Operation, new_node, move_node, put_key, type_text, erase_text, add_item, shift_item, set_item, drop_item}
-use Rattle.model.specs.State.{State, Place, RowKey, row_cmp, Character, characters_apart, edit_row, is_above, killed, moved, named, done, run_of, step, typed}
+use Rattle.model.specs.State.{State, Atom, Place, RowKey, row_cmp, Character, characters_apart, edit_row, is_above, killed, moved, named, done, run_of, step, typed}
 use Rattle.model.specs.Value.{Value}
 use Rattle.model_laws.specs.Tree.{Places}
 use Rattle.model_laws.proofs.ArrivalLaws.{step_done}
@@ -20,8 +20,9 @@ use Rattle.model_laws.proofs.Tables.{row_eq, row_total, some_edited, there_edite
 use Rattle.model_laws.proofs.TreeLaws.{get-inserted}
 use Rattle.arrival_laws.proofs.ReferLaws.{after_right, apart_right}
 use Rattle.fugue_text.proofs.IdLaws.{plus_plus, plus_then, plus_zero}
-use Rattle.doc_store.specs.References.{HasMade, HasRun, MakesRows, RowsMade, first_wrong_of, is_in_run}
+use Rattle.doc_store.specs.References.{HasMade, HasRun, IsFirstWrong, MakesRows, RowsMade, first_wrong_of, is_in_run}
 use Rattle.doc_store.specs.declared.made.Made.{Made}
+use Rattle.doc_store.specs.declared.references.BadRef.{BadRef}
 use Rattle.doc_store.proofs.TypedLaws.{done_typed, typed_are}
 
 one_more : {X : Type 0} (e : Bool) (x : X) (o : Option X) (a b c : Bool) → is_some o ≡ (a || b) → c ≡ cond e true b → is_some (cond e (Some x) o) ≡ (a || c)
@@ -230,3 +231,10 @@ module _ (u : State) (id node first : OpId) (count k : ℕ) (less : k < count) (
 
   pub name_right : (there && id_lt name id) ≡ true → StillWrong u id node first count (k + 1)
   name_right e = at_name ∙ right_here id name there (characters_named u node (run_of (id_plus first (k + 1)) (count - (k + 1)))) e
+
+-- ---- none at all
+
+-- Where no first wrong reference is told there is none.
+pub none_wrong : (s : State) (ops : List Atom) (o : Option BadRef) → is_some o ≡ false → IsFirstWrong s ops o → wrong_references s 0 ops ≡ []
+none_wrong s ops None e w = w
+none_wrong s ops (Some b) e w = cc

@@ -15,6 +15,7 @@ use Rattle.move_list.specs.Codes.{element_code}
 use Rattle.move_list.specs.Lists.{ListTables}
 use Rattle.lww_map.specs.Keys.{table_code as registers_code}
 use Rattle.tree_log.specs.Moves.{Log, log_code, places_now}
+use Rattle.tree_log.specs.Open.{Open, open_code, whole}
 use Rattle.tree_log.specs.declared.moves.TreeMove.{TreeMove}
 use Rattle.fugue_tree.specs.Trees.{Table, table_code, MayHang}
 
@@ -25,6 +26,15 @@ pub record Kept : Type 0 where
 -- the state that it makes up
 abbrev pub state_of : Kept → State
 state_of d = with_nodes (places_now d.log) d.contents
+
+-- the same where moves may still have to be done
+pub record Drafted : Type 0 where
+  pub contents : Contents
+  pub moves : Open
+
+-- what it is when all moves are done
+abbrev pub document_of : Drafted → Kept
+document_of d = record { contents = d.contents; log = whole d.moves }
 
 -- ---- codes
 
@@ -38,6 +48,9 @@ contents_code =
 
 abbrev pub kept_code : Coded Kept
 kept_code = code_by (Contents × Log) (coded× contents_code log_code) (λ d. (d.contents, d.log)) (λ p. record { contents = p.0; log = p.1 }) (λ _. refl)
+
+abbrev pub drafted_code : Coded Drafted
+drafted_code = code_by (Contents × Open) (coded× contents_code open_code) (λ d. (d.contents, d.moves)) (λ p. record { contents = p.0; moves = p.1 }) (λ _. refl)
 
 -- ---- what the code keeps
 

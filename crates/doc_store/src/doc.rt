@@ -1,38 +1,28 @@
 // The document.
-ghost use Rattle.std.specs.Prelude.{◌≡◌, ◌≤◌, ◌+◌, ◌*◌, [], length, map, IfOk};
+ghost use Rattle.std.specs.Prelude.{◌≡◌, [], map, IfOk};
 ghost use Rattle.std.specs.FinMap as fin;
-ghost use Rattle.std.specs.List.{AllByRecursion};
-ghost use Rattle.model.specs.Held.{wrong_references};
 ghost use Rattle.model.specs.State.{empty_state};
 ghost use Rattle.model.specs.View.{view};
-ghost use Rattle.model_laws.specs.Arrival.{Rises};
-ghost use Rattle.tree_log.specs.Moves.{later_count};
-ghost use Rattle.tree_log.specs.Steps.{moves_of};
 ghost use Rattle.tree_move.specs.Parents.{row_of as node_row};
 ghost use Rattle.lww_map.specs.Keys.{rows_seen};
 ghost use Rattle.fugue_text.specs.Texts.{text_entries};
 ghost use Rattle.move_list.specs.Lists.{element_entries, place_entries};
-ghost use Rattle.doc_store.specs.Documents.{DecodesAll, DecodesSome, Forgets, HasNoRow, IsDocument, IsFormed, Joins, parts_of};
+ghost use Rattle.doc_store.specs.Documents.{Forgets, IsDocument};
 ghost use Rattle.doc_store.specs.Kept.{state_of};
 ghost use Rattle.fugue_tree.specs.Trees.{place_row};
-ghost use Rattle.doc_store.specs.References.{IsFirstWrong};
 ghost use Rattle.doc_store.specs.Views.{Finds};
 
 use crate::children::{ChildIndex, Pending, open_all};
 use crate::kept_rows::KeptRows;
-use crate::made::Made;
-use crate::references::BadRef;
 use crate::tables::{ElementRows, NodeRows, PlaceRows, RegisterRows, Tables, TextRows};
 use crate::view::View;
-use op_grammar::OpSource;
 use op_ids::ROOT;
-use outside::Tally;
 use std::alloc::{AllocError, Global};
 use std::marker::Model;
 use tree_log::TreeLog;
 use tree_move::Parents;
 
-/// A document: a state, and the operations since, whatever the order in which they came.
+/// A document: the tables that a state and the operations since make, whatever the order in which they came, and the log of moves.
 ///
 /// Contracts say what is true of it for every state and operations that it may be said to be made of (`IsDocument`).
 #[derive(Drop)]
@@ -64,67 +54,6 @@ impl Doc {
             rows: KeptRows::new(alloc),
             log: TreeLog::from_parents(alloc, Parents::new(alloc)),
         }
-    }
-
-    /// The first wrong reference of these operations, each in the document with those before it.
-    ///
-    /// A reference is wrong where no such row is there, or its id isn't smaller than the operation's. Each operation has the
-    /// form and the bounds of one. Counts each operation that it reads.
-    pub fn refs_known<'a, S: OpSource<'a> + Drop>(
-        &self,
-        ops: S,
-        tally: &mut Tally,
-    ) -> Result<Option<BadRef>, AllocError>
-        requires { AllByRecursion IsFormed (S.left ops) }
-        ensures first { IfOk result (IsFirstWrong (state_of self.now) (S.left ops)) }
-        ensures tally { DecodesSome tally.old tally.new (length (S.left ops)) }
-    {
-        let mut ops = ops;
-        let mut made = Made::new(self.alloc);
-        let mut last = None;
-        let mut place = 0u32;
-        while let Some((id, op)) = ops.next_op(tally) {
-            // No operation asks for what the very last one makes.
-            made.add_last(last)?;
-            if let Some(wrong) = self.wrong_id(&made, id, op) {
-                return Ok(Some(BadRef {
-                    op: place,
-                    id: wrong,
-                }));
-            }
-            last = Some((id, op));
-            place = place.saturating_add(1);
-        }
-        Ok(None)
-    }
-
-    /// The document with these operations, each in its place by its id. After a refusal it is gone.
-    ///
-    /// Each operation has the form and the bounds of one, and none refers wrongly in the document with those before it. The
-    /// ids of their parts rise, and no row of the document has one of them. Counts each operation, and at most twice the held
-    /// moves that come after one of the new ones, and the new ones.
-    pub fn apply<'a, S: OpSource<'a> + Drop>(
-        self,
-        ops: S,
-        tally: &mut Tally,
-    ) -> Result<Doc, AllocError>
-        requires formed { AllByRecursion IsFormed (S.left ops) }
-        requires refer { wrong_references (state_of self) 0 (S.left ops) ≡ [] }
-        requires rise { Rises (parts_of (S.left ops)) }
-        requires fresh { AllByRecursion (λ a. HasNoRow (state_of self) a.id) (parts_of (S.left ops)) }
-        ensures joins { IfOk result (Joins self (S.left ops)) }
-        ensures decoded { DecodesAll tally.old tally.new (S.left ops) result }
-        ensures moved { tally.new.moves ≤ tally.old.moves
-            + (2 * later_count self.log.moves (moves_of (S.left ops)) + length (moves_of (S.left ops))) }
-    {
-        let Doc {
-            alloc,
-            mut rows,
-            mut log,
-        } = self;
-        let moves = rows.do_all(ops, tally)?;
-        log.insert(&moves, tally)?;
-        Ok(Doc { alloc, rows, log })
     }
 
     /// All tables.

@@ -1,8 +1,9 @@
-//! The document: its tables, the log of its moves, and what is planned and shown of them.
+//! The document: its tables and the log of its moves, the draft that operations come to, and what is planned and shown.
 #![tactic(auto)]
 
 mod children;
 mod doc;
+mod draft;
 mod edit;
 mod kept_rows;
 mod keys;
@@ -18,6 +19,7 @@ mod tables;
 mod view;
 
 pub use doc::Doc;
+pub use draft::Draft;
 pub use edit::{Edit, EditFault, PlanFault};
 pub use fugue_text::TextRow;
 pub use fugue_tree::PlaceRow;

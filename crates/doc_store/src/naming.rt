@@ -5,20 +5,20 @@ ghost use Rattle.op_grammar.specs.Operations.{operation_of};
 ghost use Rattle.model.specs.Held.{wrong_ids};
 ghost use Rattle.model.specs.Operation.{IsOperation};
 ghost use Rattle.model.specs.State.{State, has_anchor, has_node, run_of};
-ghost use Rattle.doc_store.specs.Kept.{state_of};
+ghost use Rattle.doc_store.specs.Kept.{document_of, state_of};
 ghost use Rattle.doc_store.specs.References.{HasMade, first_wrong_of};
 
-use crate::doc::Doc;
+use crate::draft::Draft;
 use crate::made::Made;
 use crate::references::first_wrong;
 use op_grammar::OpRef;
 use op_ids::{OpId, ROOT, TRASH};
 
-impl Doc {
+impl Draft {
     // The first id that the operation names wrongly.
     pub(crate) fn wrong_id(&self, made: &Made, id: OpId, op: OpRef<'_>) -> Option<OpId>
         requires { IsOperation 32 (operation_of op) }
-        ensures { (u : State) → HasMade (state_of self.now) made.now u
+        ensures { (u : State) → HasMade (state_of (document_of self.now)) made.now u
             → result ≡ slice_get (wrong_ids u id (operation_of op.entry)) 0 }
     {
         match op {
@@ -68,7 +68,7 @@ impl Doc {
 
     // The first of a node and an element of its own that isn't there or isn't smaller than the id.
     fn wrong_element(&self, made: &Made, id: OpId, node: OpId, element: OpId) -> Option<OpId>
-        ensures { (u : State) → HasMade (state_of self.now) made.now u
+        ensures { (u : State) → HasMade (state_of (document_of self.now)) made.now u
             → result ≡ first_wrong_of id ((node, has_node u node)
             ∷ (element, is_some (fin.get u.elements (node, element))) ∷ []) }
     {
@@ -86,7 +86,7 @@ impl Doc {
         count: u32,
     ) -> Option<OpId>
         requires { first.index + count ≤ 2 ^ 32 }
-        ensures { (u : State) → HasMade (state_of self.now) made.now u
+        ensures { (u : State) → HasMade (state_of (document_of self.now)) made.now u
             → result ≡ first_wrong_of id
             (map (λ k. (k, is_some (fin.get u.texts (node, k)))) (run_of first count)) }
     {
@@ -101,7 +101,7 @@ impl Doc {
 
     // Whether it is root, trash, a node or one that was made.
     fn has_node(&self, made: &Made, id: OpId) -> bool
-        ensures { (u : State) → HasMade (state_of self.now) made.now u
+        ensures { (u : State) → HasMade (state_of (document_of self.now)) made.now u
             → result ≡ has_node u id }
     {
         id == ROOT || id == TRASH || self.is_placed(made, id)
@@ -109,15 +109,15 @@ impl Doc {
 
     // Whether it is a node, or one that was made.
     fn is_placed(&self, made: &Made, id: OpId) -> bool
-        ensures { (u : State) → HasMade (state_of self.now) made.now u
+        ensures { (u : State) → HasMade (state_of (document_of self.now)) made.now u
             → result ≡ is_some (fin.get u.nodes id) }
     {
-        self.log.parents().parent_of(id).is_some() || made.nodes.contains(&id)
+        self.log.has_place(id) || made.nodes.contains(&id)
     }
 
     // Whether it is the head, a position of the parent or one that was made.
     fn has_anchor(&self, made: &Made, parent: OpId, id: OpId) -> bool
-        ensures { (u : State) → HasMade (state_of self.now) made.now u
+        ensures { (u : State) → HasMade (state_of (document_of self.now)) made.now u
             → result ≡ has_anchor u.positions parent id }
     {
         id == ROOT || self.rows.positions.has(parent, id) || made.positions.contains(&(parent, id))
@@ -125,7 +125,7 @@ impl Doc {
 
     // Whether it is the head, a character of the node or one that was made.
     fn has_text_anchor(&self, made: &Made, node: OpId, id: OpId) -> bool
-        ensures { (u : State) → HasMade (state_of self.now) made.now u
+        ensures { (u : State) → HasMade (state_of (document_of self.now)) made.now u
             → result ≡ has_anchor u.texts node id }
     {
         id == ROOT || self.has_character(made, node, id)
@@ -133,7 +133,7 @@ impl Doc {
 
     // Whether it is a character of the node, or one that was made.
     fn has_character(&self, made: &Made, node: OpId, id: OpId) -> bool
-        ensures { (u : State) → HasMade (state_of self.now) made.now u
+        ensures { (u : State) → HasMade (state_of (document_of self.now)) made.now u
             → result ≡ is_some (fin.get u.texts (node, id)) }
     {
         self.rows.texts.has(node, id) || made.characters.contains(&(node, id))
@@ -141,7 +141,7 @@ impl Doc {
 
     // Whether it is the head, a position of the node's list or one that was made.
     fn has_list_anchor(&self, made: &Made, node: OpId, id: OpId) -> bool
-        ensures { (u : State) → HasMade (state_of self.now) made.now u
+        ensures { (u : State) → HasMade (state_of (document_of self.now)) made.now u
             → result ≡ has_anchor u.list_positions node id }
     {
         id == ROOT
@@ -151,7 +151,7 @@ impl Doc {
 
     // Whether it is an element of the node, or one that was made.
     fn has_element(&self, made: &Made, node: OpId, id: OpId) -> bool
-        ensures { (u : State) → HasMade (state_of self.now) made.now u
+        ensures { (u : State) → HasMade (state_of (document_of self.now)) made.now u
             → result ≡ is_some (fin.get u.elements (node, id)) }
     {
         self.rows.lists.has_element(node, id) || made.elements.contains(&(node, id))

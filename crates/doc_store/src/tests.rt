@@ -1,18 +1,26 @@
-// What no clause says: that each call succeeds where memory is ample, what it answers of a document of one node, and that
-// operations on a text and a list that come in two orders show the same.
-ghost use Rattle.std.specs.Prelude.{[], drop, map, option_to_list};
-ghost use Rattle.std.specs.List.{AllByRecursion};
+// What no clause says: that each call succeeds where memory is ample, what it answers of a document of one node, that operations
+// on a text and a list that come in two orders show the same, and that moves leave the same tables whatever their order and
+// wherever the draft was settled before.
+ghost use Rattle.std.specs.Prelude.{◌≡◌, Some, IfOk, IfSome, [], drop, map, option_to_list};
+ghost use Rattle.std.specs.Bool.{OnTrue};
+ghost use Rattle.std.specs.List.{AllByRecursion, list_any};
+ghost use Rattle.op_ids.specs.Order.{id_eq};
 ghost use Rattle.model.specs.Value.{IsOpId};
 ghost use Rattle.model_laws.specs.Arrival.{IsFresh, Rises, all_placed};
+ghost use Rattle.op_grammar.specs.Operations.{operation_of};
 ghost use Rattle.op_grammar.specs.Sources.{atom_of};
-ghost use Rattle.doc_store.specs.Documents.{IsFormed, parts_of};
+ghost use Rattle.tree_log.specs.declared.moves.TreeMove.{TreeMove};
+ghost use Rattle.tree_log.specs.Steps.{move_by};
+ghost use Rattle.doc_store.specs.Documents.{IsFormed, IsOwnId, parts_of};
+ghost use Rattle.doc_store.specs.Kept.{document_of};
 
-use crate::{BadRef, Doc, Edit, EditFault, PlanFault, Tables, ViewNode};
+use crate::{BadRef, Doc, Draft, Edit, EditFault, NodeRow, PlaceRow, PlanFault, Tables, ViewNode};
 use op_grammar::{OpRef, OpSource, OwnValue, Value};
-use op_ids::{OpId, ROOT, Side, TRASH};
+use op_ids::{MAX_TIME, OpId, ROOT, Side, TRASH};
 use outside::Tally;
 use std::alloc::{AllocError, Global};
 use std::test::Fail;
+use tree_log::TreeMove;
 
 // One operation.
 #[derive(Drop)]
@@ -44,14 +52,14 @@ const SECOND: OpId = OpId {
     index: 0,
 };
 
-// A node below the root.
-fn first_child(alloc: Global, tally: &mut Tally) -> Result<Doc, AllocError> {
+// A node below the root, in a draft.
+fn first_child(alloc: Global, tally: &mut Tally) -> Result<Draft, AllocError> {
     let op = OpRef::NewNode {
         parent: ROOT,
         anchor: ROOT,
         side: Side::Right,
     };
-    Doc::new(alloc).apply(
+    Draft::of(Doc::new(alloc)).apply(
         One {
             op: Some((FIRST, op)),
         },
@@ -60,7 +68,11 @@ fn first_child(alloc: Global, tally: &mut Tally) -> Result<Doc, AllocError> {
 }
 
 // The references of a child of the first node, behind this anchor.
-fn refs_of_child(doc: &Doc, anchor: OpId, tally: &mut Tally) -> Result<Option<BadRef>, AllocError>
+fn refs_of_child(
+    draft: &Draft,
+    anchor: OpId,
+    tally: &mut Tally,
+) -> Result<Option<BadRef>, AllocError>
     requires { IsOpId 32 anchor }
 {
     let op = OpRef::NewNode {
@@ -68,7 +80,7 @@ fn refs_of_child(doc: &Doc, anchor: OpId, tally: &mut Tally) -> Result<Option<Ba
         anchor,
         side: Side::Right,
     };
-    doc.refs_known(
+    draft.refs_known(
         One {
             op: Some((SECOND, op)),
         },
@@ -335,7 +347,7 @@ const LATE: [(OpId, OpRef<'static>); 7] = [
 // The text of both.
 const TEXT: &str = "aby";
 
-// The document of some operations and then others, if they refer right.
+// The document of some operations and then others, if they refer right. It is settled once.
 fn in_two_steps(
     alloc: Global,
     ops: &[(OpId, OpRef<'static>)],
@@ -349,16 +361,17 @@ fn in_two_steps(
     requires fresh { AllByRecursion (λ a. IsFresh (all_placed (parts_of (map atom_of ops.now)) []) a.id)
         (parts_of (map atom_of others.now)) }
 {
-    let doc = Doc::new(alloc);
-    if doc.refs_known(Listed { ops, place: 0 }, tally)?.is_some() {
+    let draft = Draft::of(Doc::new(alloc));
+    if draft.refs_known(Listed { ops, place: 0 }, tally)?.is_some() {
         return Ok(None);
     }
-    let doc = doc.apply(Listed { ops, place: 0 }, tally)?;
+    let draft = draft.apply(Listed { ops, place: 0 }, tally)?;
     let ops = others;
-    if doc.refs_known(Listed { ops, place: 0 }, tally)?.is_some() {
+    if draft.refs_known(Listed { ops, place: 0 }, tally)?.is_some() {
         return Ok(None);
     }
-    Ok(Some(doc.apply(Listed { ops, place: 0 }, tally)?))
+    let draft = draft.apply(Listed { ops, place: 0 }, tally)?;
+    Ok(Some(draft.settle(tally)?))
 }
 
 fn is_true(value: &OwnValue) -> bool {
@@ -397,6 +410,244 @@ fn has_all_rows(doc: &Option<Doc>) -> Result<bool, AllocError> {
     )
 }
 
+const A: OpId = FIRST;
+
+const B: OpId = SECOND;
+
+const C: OpId = OpId { time: 3, ..A };
+
+const FOURTH: OpId = OpId { time: 4, ..A };
+
+const FIFTH: OpId = OpId {
+    member: 1,
+    ..FOURTH
+};
+
+const SIXTH: OpId = OpId {
+    member: 2,
+    ..FOURTH
+};
+
+// New nodes below the root.
+const NEW: [TreeMove; 3] = [
+    TreeMove {
+        id: A,
+        child: A,
+        parent: ROOT,
+    },
+    TreeMove {
+        id: B,
+        child: B,
+        parent: ROOT,
+    },
+    TreeMove {
+        id: C,
+        child: C,
+        parent: ROOT,
+    },
+];
+
+// Moves of these nodes, and the rows after them: those of nodes, and of positions the parent and the id.
+struct Case {
+    moves: [TreeMove; 3],
+    nodes: [NodeRow; 3],
+    positions: [(OpId, OpId); 6],
+}
+
+const CASES: [Case; 2] = [
+    // two nodes each below the other: the second move has no effect
+    Case {
+        moves: [
+            TreeMove {
+                id: FOURTH,
+                child: A,
+                parent: B,
+            },
+            TreeMove {
+                id: FIFTH,
+                child: B,
+                parent: A,
+            },
+            TreeMove {
+                id: SIXTH,
+                child: C,
+                parent: TRASH,
+            },
+        ],
+        nodes: [
+            NodeRow {
+                id: A,
+                parent: B,
+                position: FOURTH,
+            },
+            NodeRow {
+                id: B,
+                parent: ROOT,
+                position: B,
+            },
+            NodeRow {
+                id: C,
+                parent: TRASH,
+                position: SIXTH,
+            },
+        ],
+        positions: [
+            (ROOT, A),
+            (ROOT, B),
+            (ROOT, C),
+            (TRASH, SIXTH),
+            (A, FIFTH),
+            (B, FOURTH),
+        ],
+    },
+    // the second move clears the way for the third
+    Case {
+        moves: [
+            TreeMove {
+                id: FOURTH,
+                child: A,
+                parent: B,
+            },
+            TreeMove {
+                id: FIFTH,
+                child: A,
+                parent: ROOT,
+            },
+            TreeMove {
+                id: SIXTH,
+                child: B,
+                parent: A,
+            },
+        ],
+        nodes: [
+            NodeRow {
+                id: A,
+                parent: ROOT,
+                position: FIFTH,
+            },
+            NodeRow {
+                id: B,
+                parent: A,
+                position: SIXTH,
+            },
+            NodeRow {
+                id: C,
+                parent: ROOT,
+                position: C,
+            },
+        ],
+        positions: [
+            (ROOT, A),
+            (ROOT, B),
+            (ROOT, C),
+            (ROOT, FIFTH),
+            (A, SIXTH),
+            (B, FOURTH),
+        ],
+    },
+];
+
+// How many moves may be counted at most, by after how many of the six the draft is settled. Of the last three each that was
+// done may have to be undone and done again.
+const MOST: [u64; 7] = [6, 6, 6, 6, 8, 10, 6];
+
+// The new nodes, and then the moves in the order of this number, of 6.
+fn arriving(moves: &[TreeMove; 3], number: usize) -> [TreeMove; 6] {
+    let mut moves = *moves;
+    moves.swap(0, number % 3);
+    moves.swap(1, 1 + number % 2);
+    let [a, b, c] = NEW;
+    let [first, second, third] = moves;
+    [a, b, c, first, second, third]
+}
+
+fn has_id(moves: &[TreeMove], id: OpId) -> bool
+    ensures { result ≡ list_any (λ (t : TreeMove). id_eq t.id id) moves.now }
+{
+    moves.iter().any(|step| step.id == id)
+}
+
+fn is_own(id: OpId) -> bool
+    ensures { OnTrue result (IsOwnId id) }
+{
+    id.time > 0 && id.time <= MAX_TIME && id.member < 32 && id.index < 65_536
+}
+
+// A move as an operation, where its ids are those of changes. It makes a node where the child has its own id.
+fn op_of(step: TreeMove) -> Option<OpRef<'static>>
+    ensures formed { IfSome result (λ op. IsFormed (record { id = step.id; operation = operation_of op })) }
+    ensures moves { IfSome result (λ op. move_by step.id (operation_of op) ≡ Some step) }
+{
+    let TreeMove { id, child, parent } = step;
+    let parent_is_top = parent == ROOT || parent == TRASH;
+    if !is_own(id) || !is_own(child) || !(parent_is_top || is_own(parent)) {
+        return None;
+    }
+    let (anchor, side) = (ROOT, Side::Right);
+    Some(if child == id {
+        OpRef::NewNode {
+            parent,
+            anchor,
+            side,
+        }
+    } else {
+        OpRef::MoveNode {
+            child,
+            parent,
+            anchor,
+            side,
+        }
+    })
+}
+
+// The draft, settled and then opened again where it is to be.
+fn reopened(draft: Draft, settles: bool, tally: &mut Tally) -> Result<Draft, AllocError>
+    ensures { IfOk result (λ d. document_of d ≡ document_of draft) }
+{
+    if settles {
+        return Ok(Draft::of(draft.settle(tally)?));
+    }
+    Ok(draft)
+}
+
+// The document of moves that come in this order, each in a change of its own, if they may. The draft is settled once after so
+// many of them, and at the end.
+fn arrived(
+    alloc: Global,
+    moves: &[TreeMove],
+    settled: usize,
+    tally: &mut Tally,
+) -> Result<Option<Doc>, AllocError> {
+    let mut draft = Draft::of(Doc::new(alloc));
+    for (place, step) in moves.iter().enumerate() {
+        draft = reopened(draft, place == settled, tally)?;
+        let Some(op) = op_of(*step) else {
+            return Ok(None);
+        };
+        let op = Some((step.id, op));
+        if has_id(&moves[..place], step.id) || draft.refs_known(One { op }, tally)?.is_some() {
+            return Ok(None);
+        }
+        draft = draft.apply(One { op }, tally)?;
+    }
+    Ok(Some(draft.settle(tally)?))
+}
+
+fn is_at(row: &PlaceRow, place: (OpId, OpId)) -> bool {
+    (row.owner, row.id) == place && row.anchor == ROOT && row.side == Side::Right
+}
+
+// Whether these are the tables of a case.
+fn are_tables(tables: &Tables, case: &Case) -> bool {
+    let positions = tables.positions.as_slice();
+    tables.nodes.as_slice() == case.nodes.as_slice()
+        && positions.len() == case.positions.len()
+        && positions
+            .iter()
+            .zip(case.positions)
+            .all(|(row, place)| is_at(row, place))
+}
+
 // The depths and ids of a view.
 const SHOWN: [(u32, OpId); 2] = [(0, ROOT), (1, FIRST)];
 
@@ -413,7 +664,7 @@ fn are_rows(tables: &Tables) -> bool {
 #[test]
 fn a_child_is_shown(rt: HostRuntime) -> Result<(), Fail> {
     let mut tally = Tally::new();
-    let mut doc = first_child(rt.alloc(), &mut tally)?;
+    let mut doc = first_child(rt.alloc(), &mut tally)?.settle(&mut tally)?;
     doc.forget_through(1);
     let view = doc.view()?;
     assert_eq!(rt; view.as_slice().len(), SHOWN.len());
@@ -427,18 +678,20 @@ fn a_child_is_shown(rt: HostRuntime) -> Result<(), Fail> {
 #[test]
 fn references_are_known(rt: HostRuntime) -> Result<(), Fail> {
     let mut tally = Tally::new();
-    let doc = first_child(rt.alloc(), &mut tally)?;
-    assert!(rt; refs_of_child(&doc, ROOT, &mut tally)?.is_none());
-    let wrong = refs_of_child(&doc, SECOND, &mut tally)?;
+    let draft = first_child(rt.alloc(), &mut tally)?;
+    assert!(rt; refs_of_child(&draft, ROOT, &mut tally)?.is_none());
+    let wrong = refs_of_child(&draft, SECOND, &mut tally)?;
     assert!(rt; wrong.is_some_and(|bad| bad.op == 0 && bad.id == SECOND));
     assert_eq!(rt; tally.decoded(), 3);
+    let settled = Draft::of(draft.settle(&mut tally)?);
+    assert!(rt; refs_of_child(&settled, ROOT, &mut tally)?.is_none());
     Ok(())
 }
 
 #[test]
 fn edits_are_planned(rt: HostRuntime) -> Result<(), Fail> {
     let mut tally = Tally::new();
-    let doc = first_child(rt.alloc(), &mut tally)?;
+    let doc = first_child(rt.alloc(), &mut tally)?.settle(&mut tally)?;
     for (edit, place) in PLACES {
         assert_eq!(rt; place_in(&doc, &edit), Some(place));
     }
@@ -456,6 +709,26 @@ fn both_orders_show_the_same(rt: HostRuntime) -> Result<(), Fail> {
     for doc in [early_first, late_first] {
         assert!(rt; shows_all(&doc)?);
         assert!(rt; has_all_rows(&doc)?);
+    }
+    Ok(())
+}
+
+#[test]
+fn moves_leave_the_same_tables_in_any_order(rt: HostRuntime) -> Result<(), Fail> {
+    for case in &CASES {
+        for number in 0..6usize {
+            let moves = arriving(&case.moves, number);
+            for (settled, most) in MOST.iter().enumerate() {
+                let mut tally = Tally::new();
+                let doc = arrived(rt.alloc(), &moves, settled, &mut tally)?;
+                let doc = doc.ok_or("a move may not come")?;
+                assert!(rt;
+                    are_tables(&doc.tables()?, case),
+                    "order {number}, {settled}"
+                );
+                assert!(rt; tally.moves() <= *most, "order {number}, {settled}");
+            }
+        }
     }
     Ok(())
 }

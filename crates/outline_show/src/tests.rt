@@ -3,7 +3,7 @@ ghost use Rattle.std.specs.Prelude.{drop, map};
 ghost use Rattle.op_grammar.specs.Sources.{atom_of};
 
 use crate::{log_line, show_text};
-use doc_store::Doc;
+use doc_store::{Doc, Draft};
 use op_grammar::{Head, OpRef, OpSource, Value};
 use op_ids::{OpId, ROOT, Side};
 use outside::Tally;
@@ -149,8 +149,8 @@ const WAITING: &str = "waits 1 2 30 causes 0,0,0 count 4 width 5\n";
 // The document of these operations, if they refer right.
 fn small_document(alloc: Global) -> Result<Option<Doc>, AllocError> {
     let mut tally = Tally::new();
-    let doc = Doc::new(alloc);
-    match doc.refs_known(
+    let draft = Draft::of(Doc::new(alloc));
+    match draft.refs_known(
         Listed {
             ops: &OPS,
             place: 0,
@@ -158,13 +158,16 @@ fn small_document(alloc: Global) -> Result<Option<Doc>, AllocError> {
         &mut tally,
     )? {
         Some(_) => Ok(None),
-        None => Ok(Some(doc.apply(
-            Listed {
-                ops: &OPS,
-                place: 0,
-            },
-            &mut tally,
-        )?)),
+        None => {
+            let draft = draft.apply(
+                Listed {
+                    ops: &OPS,
+                    place: 0,
+                },
+                &mut tally,
+            )?;
+            Ok(Some(draft.settle(&mut tally)?))
+        }
     }
 }
 

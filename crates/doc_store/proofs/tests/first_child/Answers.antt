@@ -1,13 +1,12 @@
-use Rattle.std.proofs.Common.{refl, sym, subst, inl, lit<, lit≤, []}
+use Rattle.std.proofs.Common.{refl, sym, ap, subst, inl, lit<, lit≤, [], ◌∷◌}
 use Rattle.op_ids.specs.Order.{root_id}
 use Rattle.op_ids.specs.declared.OpId.{OpId}
 use Rattle.model.specs.Operation.{new_node}
 use Rattle.model.specs.Value.{IsOpId}
 use Rattle.model.specs.State.{empty_state, right_of}
-use Rattle.arrival_laws.proofs.DocumentLaws.{empty_below}
-use Rattle.doc_store.specs.Documents.{HasNoRow, IsFormed}
-use Rattle.doc_store.specs.Kept.{state_of}
-use Rattle.doc_store.proofs.FreshLaws.{fresh_ids_have_no_row}
+use Rattle.doc_store.specs.Documents.{IsDocument, IsFormed}
+use Rattle.doc_store.specs.Kept.{document_of}
+use Rattle.doc_store.proofs.FreshLaws.{free_in}
 use Rattle.doc_store.proofs.tests.first_child.Goals as goal
 
 abbrev first : OpId
@@ -24,5 +23,7 @@ formed = record {
 
 pub apply-requires : goal.apply-requires
 apply-requires c =
-    let unused : HasNoRow (state_of c.new.result) first = subst (λ u. HasNoRow u first) (sym c.new.ensures.state) (fresh_ids_have_no_row empty_state [] first c.new.ensures.made_of (empty_below first) tt) in
-    λ k. ((refl, tt), ((formed, tt), (refl, ((tt, tt), (unused, tt)))))
+    let d = document_of c.of.result in
+    let is : IsDocument d empty_state [] = subst (λ k. IsDocument k empty_state []) (sym (ap document_of c.of.ensures)) c.new.ensures in
+    let unused = free_in d [] (record { id = first; operation = new_node root_id (right_of root_id) } ∷ []) is (tt, tt) in
+    λ k. ((refl, tt), ((formed, tt), (refl, ((tt, tt), unused))))

@@ -1,4 +1,4 @@
-use Rattle.std.proofs.Common.{ℕ, ◌<◌, ◌≤◌, length, List, [], ◌∷◌, zero, suc, true, false, inl, refl, sym, subst, lit<, lit≤, arith}
+use Rattle.std.proofs.Common.{ℕ, ◌≡◌, ◌∙◌, ◌<◌, ◌≤◌, length, List, [], ◌∷◌, zero, suc, true, false, inl, refl, sym, ap, subst, lit<, lit≤, arith}
 use Rattle.std.specs.Prelude.{IsUtf8, codes, slice_index, negsuc}
 use Rattle.std.specs.List.{AllByRecursion}
 use Rattle.std.specs.FinMap.{get-empty}
@@ -10,7 +10,7 @@ use Rattle.model.specs.Value.{IsOpId, IsValue, Value, null, truth, integer, text
 use Rattle.model.specs.State.{Atom, empty_state, right_of, row_cmp}
 use Rattle.doc_store.specs.Documents.{HasNoRow, IsFormed, IsOwnId, parts_of}
 use Rattle.model_laws.specs.Arrival.{Rises}
-use Rattle.doc_store.specs.Kept.{state_of}
+use Rattle.doc_store.specs.Kept.{document_of, state_of}
 use Rattle.outline_show.proofs.tests.small_document.Goals as goal
 
 abbrev own : ℕ → OpId
@@ -100,5 +100,7 @@ refs_known-requires c κs = ((refl, tt), all_formed)
 pub apply-requires : goal.apply-requires
 apply-requires c κs =
     let refer = rw c.in-None.is at c.in_ok-refs_known.ensures.first in
-    let free : (id : OpId) → HasNoRow (state_of c.new-doc.result) id = λ id. subst (λ u. HasNoRow u id) (sym c.new-doc.ensures.state) (unused id) in
+    let d = document_of c.of-draft.result in
+    let empty : state_of d ≡ empty_state = ap (λ k. state_of (document_of k)) c.of-draft.ensures ∙ c.new.ensures.state in
+    let free : (id : OpId) → HasNoRow (state_of d) id = λ id. subst (λ u. HasNoRow u id) (sym empty) (unused id) in
     ((refl, tt), (all_formed, (refer, (all_rise, (free _, (free _, (free _, (free _, (free _, (free _, (free _, (free _, tt))))))))))))

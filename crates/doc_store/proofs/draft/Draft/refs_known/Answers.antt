@@ -1,13 +1,13 @@
 use Rattle.std.proofs.Common.{sym, subst, refl, arith}
 use Rattle.std.specs.Prelude.{Some}
-use Rattle.doc_store.specs.Kept.{state_of}
+use Rattle.doc_store.specs.Kept.{document_of, state_of}
 use Rattle.doc_store.specs.References.{HasMade}
 use Rattle.doc_store.proofs.WorkLaws.{OnceAdded, Reading, reading_added, reading_next, reading_wrong}
-use Rattle.doc_store.proofs.doc.Doc.refs_known.Goals as goal
+use Rattle.doc_store.proofs.draft.Draft.refs_known.Goals as goal
 
 pub loop-id-init : goal.loop-id-init
 loop-id-init g c =
-    let s = state_of c.args.self.now in (
+    let s = state_of (document_of c.args.self.now) in (
       tt,
       record {
         at = 0;
@@ -24,7 +24,7 @@ loop-id-init g c =
 
 pub returns-in-Some-wrong_id-clause-first : goal.returns-in-Some-wrong_id-clause-first
 returns-in-Some-wrong_id-clause-first g c =
-    let s = state_of c.args.self.now in
+    let s = state_of (document_of c.args.self.now) in
     let all = g.S.OpSource.left c.args.ops in
     let r = reading_added s all c.args.tally.now c.loop-id.made c.loop-id.last c.loop-id.place c.loop-id.tally _ c.add_last.new.self c.in_ok-add_last.ensures
     (subst (Reading s all c.args.tally.now (OnceAdded s c.loop-id.made c.loop-id.last) c.loop-id.place c.loop-id.tally) c.in-Some.ensures.handed c.loop-id.invariant.1) in
@@ -32,7 +32,7 @@ returns-in-Some-wrong_id-clause-first g c =
 
 pub loop-id-preserved : goal.loop-id-preserved
 loop-id-preserved g c =
-    let s = state_of c.args.self.now in
+    let s = state_of (document_of c.args.self.now) in
     let all = g.S.OpSource.left c.args.ops in
     let r = reading_added s all c.args.tally.now c.loop-id.made c.loop-id.last c.loop-id.place c.loop-id.tally _ c.add_last.new.self c.in_ok-add_last.ensures
     (subst (Reading s all c.args.tally.now (OnceAdded s c.loop-id.made c.loop-id.last) c.loop-id.place c.loop-id.tally) c.in-Some.ensures.handed c.loop-id.invariant.1) in

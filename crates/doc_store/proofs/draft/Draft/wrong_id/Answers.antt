@@ -5,8 +5,8 @@ use Rattle.model.specs.Held.{wrong_ids}
 use Rattle.doc_store.specs.References.{first_wrong_of}
 use Rattle.model.specs.State.{run_of}
 use Rattle.doc_store.proofs.ReferenceLaws.{characters_named, right_here}
-use Rattle.doc_store.proofs.doc.Doc.wrong_id.Goals as goal
-use Rattle.doc_store.proofs.doc.Doc.wrong_id.Goals.{then-has_node, else-has_node}
+use Rattle.doc_store.proofs.draft.Draft.wrong_id.Goals as goal
+use Rattle.doc_store.proofs.draft.Draft.wrong_id.Goals.{then-has_node, else-has_node}
 
 pub returns-in-NewNode : goal.returns-in-NewNode
 returns-in-NewNode c u h =

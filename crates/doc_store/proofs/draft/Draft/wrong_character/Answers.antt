@@ -1,8 +1,8 @@
 use Rattle.std.proofs.Common.{◌≡◌, ◌&&◌, ◌<◌, ◌≤◌, ◌∙◌, ap, arith, sym}
 use Rattle.op_ids.specs.Order.{id_lt}
 use Rattle.doc_store.proofs.ReferenceLaws.{name_right, name_wrong, still_all, still_none}
-use Rattle.doc_store.proofs.doc.Doc.wrong_character.Goals as goal
-use Rattle.doc_store.proofs.doc.Doc.wrong_character.Goals.{then-has_character, else-has_character}
+use Rattle.doc_store.proofs.draft.Draft.wrong_character.Goals as goal
+use Rattle.doc_store.proofs.draft.Draft.wrong_character.Goals.{then-has_character, else-has_character}
 
 pub loop-k-init : goal.loop-k-init
 loop-k-init c u h = still_all u c.args.id c.args.node c.args.first c.args.count
