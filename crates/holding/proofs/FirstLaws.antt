@@ -1,5 +1,5 @@
 -- The first reason why a change may not join, looked for member by member.
-use Rattle.std.proofs.Common.{◌≡◌, ℕ, zero, suc, ◌+◌, ◌<◌, ◌≤◌, false, true, eqb, ltb, ◌||◌, cond, List, [], ◌∷◌, ◌++◌, length, map, get_or, Option, Some, None, refl, sym, ap, ◌∙◌, arith, inl, inr}
+use Rattle.std.proofs.Common.{◌≡◌, ℕ, zero, suc, ◌+◌, ◌<◌, ◌≤◌, false, true, eqb, ltb, List, [], ◌∷◌, ◌++◌, map, Option, Some, None, refl, ap, ◌∙◌, arith, inl, inr}
 use Rattle.std.specs.Prelude.{filter_map, slice_get, slice_index}
 use Rattle.std.specs.List.{cons_option, range_with_len}
 use Rattle.std.specs.Option.{option_map, option_or}
@@ -8,7 +8,7 @@ use Rattle.std.proofs.lemmas.List.FromFn.{get_or-map-range_with_len, length-map-
 use Rattle.std.proofs.lemmas.Option.{get_or_from_slice_get, slice_get-get_or, slice_get-map}
 use Rattle.model.specs.Base.{MemberRow, members}
 use Rattle.model.specs.Change.{Change}
-use Rattle.model.specs.Held.{Held, Misfit, before_cause, forgets, forgotten, lacks_cause, late_cause, late_time, missing_cause, not_later}
+use Rattle.model.specs.Held.{Held, before_cause, forgets, forgotten, lacks_cause, late_cause, late_time, missing_cause, not_later}
 use Rattle.model_laws.proofs.ListLaws.{all_more, filter_map_none}
 use Rattle.model_laws.proofs.ChangeLaws.{members_below}
 use Rattle.arrival_laws.proofs.SoundLaws.{name}

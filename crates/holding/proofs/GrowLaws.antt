@@ -1,18 +1,16 @@
 -- What may join a ledger may join what is held of it.
-use Rattle.std.proofs.Common.{◌≡◌, ℕ, ◌+◌, ◌<◌, ◌++◌, true, false, eqb, ltb, not, Bool, List, [], None, subst, sym, ap, ◌∙◌, arith, inl, inr, refl}
+use Rattle.std.proofs.Common.{◌≡◌, ℕ, ◌+◌, ◌<◌, ◌++◌, true, false, eqb, ltb, not, [], None, subst, sym, ap, ◌∙◌, arith, inl, inr, refl}
 use Rattle.std.specs.Prelude.{filter_map, slice_get, slice_index}
-use Rattle.std.specs.List.{AllByRecursion, list_all}
 use Rattle.std.proofs.lemmas.Bool.{cases_lt, eq-eqb, le-ltb, lt-ltb}
-use Rattle.model.specs.Base.{MemberRow, base_of, last_of, member_row, members}
-use Rattle.model.specs.Change.{Change, IsChange}
-use Rattle.model.specs.Held.{Held, held, held_behind, is_missing, is_ready, lacks_cause, misfits, missing_cause, row_behind}
-use Rattle.model.specs.Ledger.{IsAmong, Joins, Sound}
+use Rattle.model.specs.Base.{MemberRow, base_of, member_row, members}
+use Rattle.model.specs.Change.{Change}
+use Rattle.model.specs.Held.{Held, held, held_behind, is_missing, is_ready, misfits, missing_cause, row_behind}
+use Rattle.model.specs.Ledger.{IsAmong}
 use Rattle.model_laws.proofs.ListLaws.{all_more, nil_from_append, nil_from_none}
 use Rattle.arrival_laws.proofs.ComeLaws.{comes_in_turn}
 use Rattle.arrival_laws.proofs.ReadLaws.{Halves, fits_agree, ready_agrees, rows_agree}
 use Rattle.arrival_laws.proofs.SoundLaws.{list_of_all, ready_from}
 use Rattle.arrival_laws.proofs.StableLaws.{fitting, given_none, nil_second}
-use Rattle.holding.specs.Holds.{MayJoin}
 use Rattle.holding.specs.Laws.{FitChangesJoin, LedgersMayGrow}
 
 pub ledgers_may_grow : LedgersMayGrow

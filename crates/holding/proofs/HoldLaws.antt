@@ -1,12 +1,11 @@
 -- What is read off what is held.
-use Rattle.std.proofs.Common.{◌≡◌, ℕ, ◌<◌, ◌≤◌, List, length, map, replicate, Some, refl, sym, ap, ◌∙◌, ◌∷◌, [], zero, suc, ◌+◌, arith, subst}
-use Rattle.std.specs.Prelude.{All, slice_get, slice_index}
+use Rattle.std.proofs.Common.{◌≡◌, ℕ, ◌<◌, List, length, map, replicate, Some, refl, sym, ap, ◌∙◌, ◌∷◌, [], zero, suc, ◌+◌, arith}
+use Rattle.std.specs.Prelude.{slice_get, slice_index}
 use Rattle.std.specs.List.{range_with_len}
-use Rattle.std.proofs.lemmas.List.{length-map}
 use Rattle.std.proofs.lemmas.List.FromFn.{length-map-range_with_len}
 use Rattle.std.proofs.lemmas.Option.{same_Some}
 use Rattle.std.proofs.lemmas.Simd.{map-map}
-use Rattle.model.specs.Base.{Base, MemberRow, base_of, member_row, members, rows_of_changes}
+use Rattle.model.specs.Base.{Base, MemberRow, base_of, member_row, members}
 use Rattle.model.specs.Change.{Change, IsChange}
 use Rattle.model.specs.Held.{held_behind, row_behind}
 use Rattle.op_grammar.specs.Changes.{head_of}
@@ -32,13 +31,9 @@ many_causes n c head is same = ap (λ (x : Head). length x.causes) same ∙ is.c
 pub cause_read : (c : Change) (head : Head) (k cause : ℕ) → head ≡ head_of c → cause ≡ slice_index head.causes k → cause ≡ slice_index c.causes k
 cause_read c head k cause same is = is ∙ ap (λ (x : Head). slice_index x.causes k) same
 
-pub many_counts : (h : Holding) (n : ℕ) (b : Base) (kept : List Change) (counts : List ℕ) → Holds h n b kept → counts ≡ map (λ (r : MemberRow). r.count) h.fronts → length counts ≡ n
-many_counts h n b kept counts holds are = ap (λ (cs : List ℕ). length cs) are ∙ length-map h.fronts (λ (r : MemberRow). r.count) ∙ many_rows h n b kept holds
-
-pub count_read : (h : Holding) (n : ℕ) (b : Base) (kept : List Change) (counts : List ℕ) (k held : ℕ) → Holds h n b kept → counts ≡ map (λ (r : MemberRow). r.count) h.fronts → k < n → held ≡ slice_index counts k
-    → held ≡ (row_behind b kept k).count
-count_read h n b kept counts k held holds are lt is =
-    is ∙ ap (λ (cs : List ℕ). slice_index cs k) (are ∙ ap (map (λ (r : MemberRow). r.count)) holds.rows) ∙ number_at (λ (r : MemberRow). r.count) n (row_behind b kept) k lt
+pub count_read : (h : Holding) (n : ℕ) (b : Base) (kept : List Change) (k held : ℕ) → Holds h n b kept → k < n → held ≡ slice_index (map (λ (r : MemberRow). r.count) h.fronts) k → held ≡ (row_behind b kept k).count
+count_read h n b kept k held holds lt is =
+    is ∙ ap (λ (rows : List MemberRow). slice_index (map (λ (r : MemberRow). r.count) rows) k) holds.rows ∙ number_at (λ (r : MemberRow). r.count) n (row_behind b kept) k lt
 
 pub last_read : (h : Holding) (n : ℕ) (b : Base) (kept : List Change) (c : Change) (head : Head) (last : ℕ) → Holds h n b kept → IsChange n c → head ≡ head_of c → last ≡ slice_index (map (λ (r : MemberRow). r.last) h.fronts) head.member
     → last ≡ (row_behind b kept c.member).last

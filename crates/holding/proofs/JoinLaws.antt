@@ -1,31 +1,33 @@
 -- What is held without changes, with one more, and what is unfit there.
-use Rattle.std.proofs.Common.{◌≡◌, ℕ, ◌+◌, ◌*◌, ◌≤◌, cond, List, [], ◌++◌, map, replicate, length, Option, Some, None, sym, ap, subst, ◌∙◌, append_assoc}
-use Rattle.std.specs.Prelude.{slice_get, unwrap_or}
+use Rattle.std.proofs.Common.{◌≡◌, ℕ, ◌≤◌, cond, List, [], ◌∷◌, ◌++◌, map, replicate, length, Option, Some, None, sym, ap, subst, ◌∙◌, append_assoc}
+use Rattle.std.specs.Prelude.{slice_get}
+use Rattle.std.proofs.lemmas.List.Sorted.{length_permutation}
 use Rattle.std.specs.BTreeMap.{is_at}
+use Rattle.std.specs.List.{AllByRecursion}
 use Rattle.std.specs.Map.{lookup}
 use Rattle.std.specs.Option.{option_map, option_or}
 use Rattle.model.specs.Base.{Base, base_of}
-use Rattle.model.specs.Change.{Change, Name, IsChange}
+use Rattle.model.specs.Change.{Change, IsChange}
 use Rattle.model.specs.Held as model
 use Rattle.model.specs.Held.{Held, held_behind, refers_wrongly, unfit, wrong_references}
 use Rattle.model.specs.Ledger.{add}
-use Rattle.model.specs.State.{Atom, State, atoms, by_ids, change_atoms, empty_state}
-use Rattle.outside.specs.Work.{Work}
+use Rattle.model.specs.State.{State, atoms, by_ids, change_atoms, empty_state}
 use Rattle.arrival_laws.proofs.AddLaws.{to_order}
-use Rattle.tree_log.specs.Moves.{later_count}
+use Rattle.tree_log.specs.Moves.{Log, Rises, inserted, IsFresh}
 use Rattle.tree_log.specs.Steps.{moves_of}
 use Rattle.tree_log.specs.declared.moves.TreeMove.{TreeMove}
+use Rattle.tree_log.proofs.SortLaws.{insertion_sorts}
 use Rattle.op_grammar.specs.Changes.{head_of}
 use Rattle.op_grammar.specs.declared.head.Head.{Head}
 use Rattle.doc_store.specs.Documents.{IsDocument, Joins}
-use Rattle.doc_store.specs.Kept.{state_of}
+use Rattle.doc_store.specs.Kept.{document_of, state_of}
 use Rattle.doc_store.specs.References.{IsFirstWrong}
 use Rattle.doc_store.specs.declared.references.BadRef.{BadRef}
 use Rattle.replica.specs.FaultText.{misfit_of}
 use Rattle.replica.specs.declared.fault.Misfit.{Misfit}
 use Rattle.stability.specs.Rows.{row_of, taken}
 use Rattle.stability.proofs.HeldLaws.{added_makes_row}
-use Rattle.holding.specs.Holds.{Holds, MayJoin, MovesMost, name_cmp, time_in}
+use Rattle.holding.specs.Holds.{Holds, MayJoin, name_cmp, time_in}
 use Rattle.holding.specs.Misfits.{forgotten_causes, late_causes, late_times, missing_causes, of_head}
 use Rattle.holding.specs.declared.holding.Holding.{Holding}
 use Rattle.holding.proofs.FirstLaws.{first_of_two}
@@ -35,12 +37,13 @@ use Rattle.holding.proofs.PlacedLaws.{ComesNext, added_counted, added_in_order, 
 
 -- ---- no changes
 
-pub holds_none : (h : Holding) (n : ℕ) → n ≤ 32 → h.fronts ≡ map row_of (replicate n (silent n)) → h.times.entries ≡ [] → IsDocument h.document empty_state [] → Holds h n (base_of n [] 0) []
-holds_none h n few rows none document = record {
+pub holds_none : (h : Holding) (n : ℕ) → n ≤ 32 → h.fronts ≡ map row_of (replicate n (silent n)) → h.times.entries ≡ [] → IsDocument (document_of h.document) empty_state [] → h.document.moves.log.moves ≡ [] → Holds h n (base_of n [] 0) []
+holds_none h n few rows none document undone = record {
   few = few;
   rows = rows ∙ silent_rows_are n;
   times = λ name. ap (λ (entries : List ((ℕ × ℕ) × ℕ)). time_in entries name) none;
   document = document;
+  undone = undone;
   in_order = to_order [] tt;
   counted = tt;
 }
@@ -48,10 +51,10 @@ holds_none h n few rows none document = record {
 -- ---- one more
 
 pub holds_added : (h now : Holding) (n : ℕ) (b : Base) (kept : List Change) (c : Change) (head : Head) → Holds h n b kept → MayJoin n b kept c → head ≡ head_of c
-    → now.fronts ≡ taken h.fronts head → Joins h.document (by_ids c.time c.member 0 c.operations) now.document
+    → now.fronts ≡ taken h.fronts head → Joins (document_of h.document) (by_ids c.time c.member 0 c.operations) (document_of now.document) → now.document.moves.log ≡ h.document.moves.log
     → ((q : ℕ × ℕ) → lookup (is_at (name_cmp q)) now.times.entries ≡ cond (is_at (name_cmp (head.member, head.number)) q) (Some head.time) (lookup (is_at (name_cmp q)) h.times.entries))
     → Holds now n b (add kept c)
-holds_added h now n b kept c head holds may same rows joins written =
+holds_added h now n b kept c head holds may same rows joins undone written =
     let next : ComesNext b kept c = record { in_order = holds.in_order; counted = holds.counted; next = may.next; later = may.later } in
     let below = below_in_turn b.state (atoms kept) (change_atoms c) may.comes.in_turn in
     let fresh = fresh_in_turn b.state (atoms kept) (change_atoms c) may.comes.in_turn in
@@ -60,16 +63,22 @@ holds_added h now n b kept c head holds may same rows joins written =
       rows = rows ∙ (λ i. taken (holds.rows i) (same i)) ∙ sym (added_makes_row n b kept c holds.in_order may.later);
       times = times_added b kept c h.times.entries now.times.entries next holds.times
           (λ q. written q ∙ ap (λ (x : Head). cond (is_at (name_cmp (x.member, x.number)) q) (Some x.time) (lookup (is_at (name_cmp q)) h.times.entries)) same);
-      document = subst (IsDocument now.document b.state) may.comes.placed (joins b.state (atoms kept) holds.document below fresh);
+      document = subst (IsDocument (document_of now.document) b.state) may.comes.placed (joins b.state (atoms kept) holds.document below fresh);
+      undone = ap (λ (l : Log). l.moves) undone ∙ holds.undone;
       in_order = added_in_order b kept c next;
       counted = added_counted b kept c next;
     }
 
-pub moves_counted : (h : Holding) (n : ℕ) (b : Base) (kept : List Change) (c : Change) (old new : Work) (ops : List Atom) → Holds h n b kept → ops ≡ by_ids c.time c.member 0 c.operations
-    → new.moves ≤ old.moves + (2 * later_count h.document.log.moves (moves_of ops) + length (moves_of ops)) → MovesMost old new (atoms kept) (by_ids c.time c.member 0 c.operations)
-moves_counted h n b kept c old new ops holds are most =
-    let held : h.document.log.moves ≡ moves_of (atoms kept) = holds.document.moves in
-    subst (λ (l : List Atom). MovesMost old new (atoms kept) l) are (subst (λ (ms : List TreeMove). new.moves ≤ old.moves + (2 * later_count ms (moves_of ops) + length (moves_of ops))) held most)
+fresh_in_none : (ts : List TreeMove) → AllByRecursion (λ t. IsFresh [] t.id) ts
+fresh_in_none [] = tt
+fresh_in_none (t ∷ ts) = (tt, fresh_in_none ts)
+
+-- all its moves are still to be done
+pub moves_left : (h : Holding) (n : ℕ) (b : Base) (kept : List Change) → Holds h n b kept → Rises h.document.moves.late → length h.document.moves.late ≡ length (moves_of (atoms kept))
+moves_left h n b kept holds rises =
+    let late = h.document.moves.late in
+    let sorted = insertion_sorts [] late tt rises (fresh_in_none late) in
+    sym (length_permutation late (inserted [] late) sorted.all) ∙ ap (λ (ms : List TreeMove). length (inserted ms late)) (sym holds.undone) ∙ ap (λ (ms : List TreeMove). length ms) holds.document.moves
 
 -- ---- what is unfit
 
@@ -99,14 +108,14 @@ told_else n past c o none is =
     is ∙ ap (λ (p : Option model.Misfit). option_or p wrong) none ∙ sym (in_two n past c)
 
 pub told_by_refs : (h : Holding) (n : ℕ) (b : Base) (kept : List Change) (c : Change) (w : BadRef) → Holds h n b kept → IsChange n c → None ≡ slice_get (of_head n (held_behind b kept) c) 0
-    → IsFirstWrong (state_of h.document) (by_ids c.time c.member 0 c.operations) (Some w) → Some (refers_wrongly w.op w.id) ≡ unfit n (held_behind b kept) c
+    → IsFirstWrong (state_of (document_of h.document)) (by_ids c.time c.member 0 c.operations) (Some w) → Some (refers_wrongly w.op w.id) ≡ unfit n (held_behind b kept) c
 told_by_refs h n b kept c w holds is none wrong =
     let ops = by_ids c.time c.member 0 c.operations in
     told_else n (held_behind b kept) c (Some (refers_wrongly w.op w.id)) none
-    (place_told n (state_of h.document) c w is wrong ∙ ap (λ (s : State). slice_get (wrong_references s 0 ops) 0) holds.document.state)
+    (place_told n (state_of (document_of h.document)) c w is wrong ∙ ap (λ (s : State). slice_get (wrong_references s 0 ops) 0) holds.document.state)
 
 pub none_told : (h : Holding) (n : ℕ) (b : Base) (kept : List Change) (c : Change) → Holds h n b kept → None ≡ slice_get (of_head n (held_behind b kept) c) 0
-    → wrong_references (state_of h.document) 0 (by_ids c.time c.member 0 c.operations) ≡ [] → None ≡ unfit n (held_behind b kept) c
+    → wrong_references (state_of (document_of h.document)) 0 (by_ids c.time c.member 0 c.operations) ≡ [] → None ≡ unfit n (held_behind b kept) c
 none_told h n b kept c holds none right =
     let ops = by_ids c.time c.member 0 c.operations in
     told_else n (held_behind b kept) c None none (sym (ap (λ (s : State). slice_get (wrong_references s 0 ops) 0) (sym holds.document.state) ∙ ap (λ (ms : List model.Misfit). slice_get ms 0) right))

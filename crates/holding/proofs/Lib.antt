@@ -1,3 +1,4 @@
+pub mod CostLaws
 pub mod PlacedLaws
 pub mod FirstLaws
 pub mod OperationLaws

@@ -12,7 +12,7 @@ use Rattle.model.specs.Change.{Change, IsChange, placed}
 use Rattle.model.specs.Value.{IsOpId}
 use Rattle.model.specs.Held.{Misfit, refers_wrongly, wrong_ids, wrong_references}
 use Rattle.model.specs.Operation.{Anchor, IsAnchor, Operation, IsOperation, new_node, move_node, put_key, type_text, erase_text, add_item, shift_item, set_item, drop_item, width_of}
-use Rattle.model.specs.State.{Atom, State, after, apart, atoms, by_ids, change_atoms}
+use Rattle.model.specs.State.{Atom, State, after, apart, by_ids, change_atoms}
 use Rattle.model_laws.specs.Arrival.{AreBelow, ComeInTurn, IsFresh, IsMadeOf, Rises, atom_before}
 use Rattle.model_laws.proofs.ListLaws.{all_back, all_both, all_front, all_more}
 use Rattle.model_laws.proofs.Rising.{IsIn, Rises-atoms, apart_in}

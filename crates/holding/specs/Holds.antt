@@ -1,5 +1,5 @@
 -- What is held, in memory, of a base and the changes kept behind it.
-use Rattle.std.specs.Prelude.{◌≡◌, ℕ, ◌+◌, ◌*◌, ◌<◌, ◌≤◌, List, [], length, unwrap_or}
+use Rattle.std.specs.Prelude.{◌≡◌, ℕ, ◌+◌, ◌<◌, ◌≤◌, List, [], unwrap_or}
 use Rattle.std.specs.BTreeMap.{is_at}
 use Rattle.std.specs.List.{AllByRecursion}
 use Rattle.std.specs.Map.{lookup}
@@ -8,12 +8,10 @@ use Rattle.std.specs.declared.cmp.Ordering.{Ordering}
 use Rattle.model.specs.Base.{Base, time_of}
 use Rattle.model.specs.Change.{Change, Name, IsChange, AreInTimeOrder}
 use Rattle.model.specs.Held.{held_behind, wrong_references}
-use Rattle.model.specs.State.{Atom, after, atoms, by_ids}
-use Rattle.outside.specs.Work.{Work}
+use Rattle.model.specs.State.{after, atoms, by_ids}
 use Rattle.arrival_laws.specs.Document.{ComesInTurn}
-use Rattle.tree_log.specs.Moves.{later_count}
-use Rattle.tree_log.specs.Steps.{moves_of}
 use Rattle.doc_store.specs.Documents.{IsDocument}
+use Rattle.doc_store.specs.Kept.{document_of}
 use Rattle.stability.specs.Rows.{rows_in}
 use Rattle.holding.specs.declared.holding.Holding.{Holding}
 
@@ -25,13 +23,14 @@ name_cmp = then_cmp (on (λ k. k.0) nat_cmp) (on (λ k. k.1) nat_cmp)
 abbrev pub time_in : List ((ℕ × ℕ) × ℕ) → Name → ℕ
 time_in entries name = unwrap_or (lookup (is_at (name_cmp (name.member, name.number))) entries) 0
 
--- The members' rows, the times and the document are those of the base with the changes behind it. These are in order, and none has a
--- greater number than its member's row.
+-- The members' rows, the times and the document are those of the base with the changes behind it, whose moves are still to be done. These
+-- changes are in order, and none has a greater number than its member's row.
 pub record Holds (h : Holding) (n : ℕ) (b : Base) (kept : List Change) : Type 0 where
   pub few : n ≤ 32
   pub rows : h.fronts ≡ rows_in n (held_behind b kept)
   pub times : (name : Name) → time_in h.times.entries name ≡ time_of kept name
-  pub document : IsDocument h.document b.state (atoms kept)
+  pub document : IsDocument (document_of h.document) b.state (atoms kept)
+  pub undone : h.document.moves.log.moves ≡ []
   pub in_order : AreInTimeOrder kept
   pub counted : AllByRecursion (λ c. c.number ≤ ((held_behind b kept).row c.member).count) kept
 
@@ -43,7 +42,3 @@ pub record MayJoin (n : ℕ) (b : Base) (kept : List Change) (c : Change) : Type
   pub later : ((held_behind b kept).row c.member).last < c.time
   pub refers : wrong_references (after b.state (atoms kept)) 0 (by_ids c.time c.member 0 c.operations) ≡ []
   pub comes : ComesInTurn b.state kept c
-
--- At most twice the moves of the list that come after one of the new ones, and the new ones, were made.
-abbrev pub MovesMost : Work → Work → List Atom → List Atom → Type 0
-MovesMost old new list ops = new.moves ≤ old.moves + (2 * later_count (moves_of list) (moves_of ops) + length (moves_of ops))

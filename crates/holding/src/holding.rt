@@ -1,18 +1,20 @@
 //! The document, the members and the times of changes.
 
-ghost use Rattle.std.specs.Prelude.{◌≡◌, ◌<◌, ◌≤◌, ℕ, [], List, IfOk, length, map, replicate};
+ghost use Rattle.std.specs.Prelude.{◌≡◌, ◌<◌, ◌≤◌, ℕ, [], List, IfOk, length, map, replicate, sum_by};
 ghost use Rattle.std.specs.Option.{option_map};
 ghost use Rattle.model.specs.Base.{Base, base_of, members as members_of};
 ghost use Rattle.model.specs.Change.{Change, IsChange};
+ghost use Rattle.model.specs.Cost.{move_count};
 ghost use Rattle.model.specs.Held.{held_behind, unfit};
 ghost use Rattle.model.specs.Ledger.{add};
 ghost use Rattle.model.specs.State.{atoms, by_ids};
+ghost use Rattle.tree_log.specs.Moves.{Worked};
 ghost use Rattle.doc_store.specs.Documents.{DecodesAll, DecodesSome, IsDocument};
 ghost use Rattle.replica.specs.FaultText.{misfit_of};
-ghost use Rattle.holding.specs.Holds.{Holds, MayJoin, MovesMost, time_in};
+ghost use Rattle.holding.specs.Holds.{Holds, MayJoin, time_in};
 ghost use Rattle.holding.specs.Misfits.{IsFirst, forgotten_causes, late_causes, late_times, missing_causes, of_head};
 
-use doc_store::Doc;
+use doc_store::{Doc, Draft};
 use lazy_blocks::Block;
 use outside::Tally;
 use replica::Misfit;
@@ -26,7 +28,7 @@ use version_vector::Vector;
 /// Contracts say what is true of it for every base and kept changes that it may be said to hold (`Holds`).
 #[derive(Drop)]
 pub struct Holding {
-    document: Doc,
+    document: Draft,
     fronts: Fronts,
     /// When each kept change was made, by its member and its number.
     times: BTreeMap<(u8, u32), u64>,
@@ -41,7 +43,7 @@ impl Holding {
     {
         let rows = silent_rows(alloc, members)?;
         Ok(Holding {
-            document: Doc::new(alloc),
+            document: Draft::of(Doc::new(alloc)),
             fronts: Fronts::from_rows(alloc, &rows)?,
             times: BTreeMap::new(alloc),
         })
@@ -53,14 +55,6 @@ impl Holding {
             → result ≡ map (λ m. ((held_behind b kept).row m).count) (members_of n) }
     {
         self.fronts.vector()
-    }
-
-    /// The document.
-    pub fn document(&self) -> &Doc
-        ensures { (n : ℕ) (b : Base) (kept : List Change) → Holds self.now n b kept
-            → IsDocument result.now b.state (atoms kept) }
-    {
-        &self.document
     }
 
     /// Why a change, the next of its member, may not join: the first reason, in the order of the rules, or none. Counts each
@@ -83,15 +77,14 @@ impl Holding {
         }
     }
 
-    /// What is held with a change that may join, in its place. After a refusal it is gone. Counts each operation, and at most
-    /// twice the held moves that come after one of the new ones, and the new ones.
+    /// What is held with a change that may join, in its place. No move is done. After a refusal it is gone. Counts each
+    /// operation.
     pub fn join(self, block: &Block<'_>, tally: &mut Tally) -> Result<Holding, AllocError>
         requires { (n : ℕ) × (b : Base) × (kept : List Change) × Holds self n b kept × MayJoin n b kept block.now }
         ensures joins { (n : ℕ) (b : Base) (kept : List Change) → Holds self n b kept → MayJoin n b kept block.now
             → IfOk result (λ h. Holds h n b (add kept block.now)) }
         ensures decoded { DecodesAll tally.old tally.new (by_ids block.now.time block.now.member 0 block.now.operations) result }
-        ensures moved { (n : ℕ) (b : Base) (kept : List Change) → Holds self n b kept → MovesMost tally.old tally.new (atoms kept)
-            (by_ids block.now.time block.now.member 0 block.now.operations) }
+        ensures moves { tally.new.moves ≡ tally.old.moves }
     {
         let Holding {
             document,
@@ -107,6 +100,16 @@ impl Holding {
             fronts,
             times,
         })
+    }
+
+    /// The document, its moves done in the order of their ids. Counts at most these.
+    pub fn settle(self, tally: &mut Tally) -> Result<Doc, AllocError>
+        ensures document { (n : ℕ) (b : Base) (kept : List Change) → Holds self n b kept
+            → IfOk result (λ d. IsDocument d b.state (atoms kept)) }
+        ensures tally { (n : ℕ) (b : Base) (kept : List Change) → Holds self n b kept
+            → Worked tally.old tally.new (sum_by move_count kept) }
+    {
+        self.document.settle(tally)
     }
 
     /// Why a change may not join as far as its head tells: A0 to A3.
@@ -126,9 +129,8 @@ impl Holding {
         ensures { IsFirst missing_causes self.now block.now result }
     {
         let head = block.head();
-        let counts = self.fronts.vector();
-        for of in 0..counts.len() {
-            let (cause, held) = (head.causes.get(of), counts.get(of));
+        for of in 0..self.fronts.len() {
+            let (cause, held) = (head.causes.get(of), self.fronts.count(of));
             if held < cause {
                 return Some(Misfit::A0 { of, cause, held });
             }

@@ -109,6 +109,14 @@ impl Fronts {
         vector
     }
 
+    /// How many changes of a member are held.
+    pub fn count(&self, member: u8) -> u32
+        requires { member < length self.now }
+        ensures { result ≡ slice_index (map (λ r. r.count) self.now) member }
+    {
+        self.rows[usize::from(member)].count
+    }
+
     /// What a member is known to know: how many changes of each member.
     pub fn known(&self, member: u8) -> &Vector
         requires { member < length self.now }

@@ -1,4 +1,4 @@
-use Rattle.std.proofs.Common.{◌≡◌, Option, ap, ◌∙◌, ◌++◌}
+use Rattle.std.proofs.Common.{Option, ap, ◌∙◌, ◌++◌}
 use Rattle.std.specs.Option.{option_map, option_or}
 use Rattle.model.specs.Held.{held_behind}
 use Rattle.replica.specs.FaultText.{misfit_of}

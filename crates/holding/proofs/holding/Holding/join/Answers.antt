@@ -1,13 +1,13 @@
-use Rattle.std.proofs.Common.{◌≡◌, [], List, refl, sym, subst, ◌∙◌, arith}
+use Rattle.std.proofs.Common.{◌≡◌, [], List, refl, sym, subst, ◌∙◌}
 use Rattle.std.specs.List.{AllByRecursion}
 use Rattle.model.specs.Held.{wrong_references}
 use Rattle.model.specs.State.{Atom, State, atoms, by_ids, change_atoms}
 use Rattle.model_laws.specs.Arrival.{Rises}
 use Rattle.doc_store.specs.Documents.{HasNoRow, IsFormed, Joins, parts_of}
-use Rattle.doc_store.specs.Kept.{state_of}
+use Rattle.doc_store.specs.Kept.{document_of, state_of}
 use Rattle.holding.specs.declared.holding.Holding.{Holding}
 use Rattle.holding.proofs.HoldLaws.{many_causes, many_rows, within_rows}
-use Rattle.holding.proofs.JoinLaws.{holds_added, moves_counted}
+use Rattle.holding.proofs.JoinLaws.{holds_added}
 use Rattle.holding.proofs.OperationLaws.{formed_of, no_row_in_turn, rises_within}
 use Rattle.holding.proofs.holding.Holding.join.Goals as goal
 
@@ -22,10 +22,10 @@ apply-requires c κs =
       (
         subst (AllByRecursion IsFormed) ops (formed_of n change holds.few may.is_change),
         (
-          subst (λ (l : List Atom). wrong_references (state_of c.args.self.document) 0 l ≡ []) ops (subst (λ (s : State). wrong_references s 0 (by_ids change.time change.member 0 change.operations) ≡ []) state may.refers),
+          subst (λ (l : List Atom). wrong_references (state_of (document_of c.args.self.document)) 0 l ≡ []) ops (subst (λ (s : State). wrong_references s 0 (by_ids change.time change.member 0 change.operations) ≡ []) state may.refers),
           (
             subst (λ (l : List Atom). Rises (parts_of l)) ops (rises_within change),
-            subst (λ (l : List Atom). AllByRecursion (λ (a : Atom). HasNoRow (state_of c.args.self.document) a.id) (parts_of l)) ops
+            subst (λ (l : List Atom). AllByRecursion (λ (a : Atom). HasNoRow (state_of (document_of c.args.self.document)) a.id) (parts_of l)) ops
                 (subst (λ (s : State). AllByRecursion (λ (a : Atom). HasNoRow s a.id) (change_atoms change)) state (no_row_in_turn b.state (atoms kept) (change_atoms change) document.made_of may.comes.in_turn)),
           ),
         ),
@@ -42,13 +42,4 @@ pub returns-clause-joins : goal.returns-clause-joins
 returns-clause-joins c = λ n b kept holds may.
     let now : Holding = record { document = c.in_ok-document.document; fronts = c.take.new.self; times = c.insert.new.self } in
     holds_added c.args.self now n b kept c.args.block.now c.head-head.result.now holds may c.head-head.ensures c.take.ensures
-    (subst (λ (l : List Atom). Joins c.args.self.document l c.in_ok-document.document) c.ops.ensures c.in_ok-document.ensures.joins) c.in_ok-insert.ensures.updates.0
-
-pub returns-in_err-document-clause-moved : goal.returns-in_err-document-clause-moved
-returns-in_err-document-clause-moved c = λ n b kept holds. moves_counted c.args.self n b kept c.args.block.now c.args.tally.now c.apply.new.tally c.ops.result holds c.ops.ensures c.apply.ensures.moved
-
-pub returns-in_err-insert-clause-moved : goal.returns-in_err-insert-clause-moved
-returns-in_err-insert-clause-moved c = λ n b kept holds. moves_counted c.args.self n b kept c.args.block.now c.args.tally.now c.apply.new.tally c.ops.result holds c.ops.ensures c.apply.ensures.moved
-
-pub returns-clause-moved : goal.returns-clause-moved
-returns-clause-moved c = λ n b kept holds. moves_counted c.args.self n b kept c.args.block.now c.args.tally.now c.apply.new.tally c.ops.result holds c.ops.ensures c.apply.ensures.moved
+    (subst (λ (l : List Atom). Joins (document_of c.args.self.document) l (document_of c.in_ok-document.document)) c.ops.ensures c.in_ok-document.ensures.joins) c.in_ok-document.ensures.undone c.in_ok-insert.ensures.updates.0

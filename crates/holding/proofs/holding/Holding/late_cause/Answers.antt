@@ -1,4 +1,4 @@
-use Rattle.std.proofs.Common.{◌≡◌, ◌<◌, slice_index, sym, ap, ◌∙◌, arith}
+use Rattle.std.proofs.Common.{◌<◌, slice_index, sym, ap, ◌∙◌, arith}
 use Rattle.model.specs.Base.{time_of}
 use Rattle.model.specs.Held.{before_cause, held_behind, late_cause}
 use Rattle.op_grammar.specs.declared.head.Head.{Head}

@@ -1,4 +1,4 @@
-use Rattle.std.proofs.Common.{◌<◌, List, sym, ap, arith}
+use Rattle.std.proofs.Common.{List, sym, ap, arith}
 use Rattle.std.specs.Prelude.{slice_get}
 use Rattle.model.specs.Held.{Misfit, held_behind}
 use Rattle.op_grammar.specs.declared.head.Head.{Head}

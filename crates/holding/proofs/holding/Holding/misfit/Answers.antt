@@ -1,13 +1,10 @@
 use Rattle.std.proofs.Common.{List, Some, None, length, refl, sym, ap, subst, ◌∙◌}
 use Rattle.std.specs.List.{AllByRecursion}
-use Rattle.std.specs.Option.{option_map}
-use Rattle.model.specs.Change.{Change}
 use Rattle.model.specs.Held.{held_behind}
-use Rattle.model.specs.State.{Atom, by_ids}
+use Rattle.model.specs.State.{Atom}
 use Rattle.doc_store.specs.Documents.{DecodesSome, IsFormed}
-use Rattle.doc_store.specs.Kept.{state_of}
+use Rattle.doc_store.specs.Kept.{document_of, state_of}
 use Rattle.doc_store.specs.References.{IsFirstWrong}
-use Rattle.holding.specs.Misfits.{IsFirst, of_head}
 use Rattle.holding.proofs.JoinLaws.{none_told, told_by_head, told_by_refs}
 use Rattle.holding.proofs.OperationLaws.{formed_of, length-by_ids}
 use Rattle.holding.proofs.holding.Holding.misfit.Goals as goal
@@ -27,7 +24,7 @@ returns-in_err-wrong-clause-tally c =
 
 pub returns-in-Some-2-clause-first : goal.returns-in-Some-2-clause-first
 returns-in-Some-2-clause-first c = λ n b kept holds is.
-    let known = state_of c.args.self.now.document in
+    let known = state_of (document_of c.args.self.now.document) in
     let found = subst (IsFirstWrong known c.ops.result) c.in-Some-2.is c.in_ok-wrong.ensures.first in
     told_by_refs c.args.self.now n b kept c.args.block.now c.in-Some-2.wrong holds is (c.in_default.ensures n b kept holds is) (subst (λ (l : List Atom). IsFirstWrong known l (Some c.in-Some-2.wrong)) c.ops.ensures found)
 
@@ -38,7 +35,7 @@ returns-in-Some-2-clause-tally c =
 
 pub returns-in-None-clause-first : goal.returns-in-None-clause-first
 returns-in-None-clause-first c = λ n b kept holds is.
-    let known = state_of c.args.self.now.document in
+    let known = state_of (document_of c.args.self.now.document) in
     let right = subst (IsFirstWrong known c.ops.result) c.in-None.is c.in_ok-wrong.ensures.first in
     none_told c.args.self.now n b kept c.args.block.now holds (c.in_default.ensures n b kept holds is) (subst (λ (l : List Atom). IsFirstWrong known l None) c.ops.ensures right)
 
