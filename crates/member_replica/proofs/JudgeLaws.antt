@@ -1,5 +1,5 @@
 -- One change after the other is judged.
-use Rattle.std.proofs.Common.{◌≡◌, ℕ, ◌+◌, ◌≤◌, length, arith, true, not, List, [], ◌∷◌, ◌++◌, map, sym, ap, subst, ◌∙◌}
+use Rattle.std.proofs.Common.{◌≡◌, ℕ, ◌+◌, ◌*◌, ◌≤◌, length, arith, true, not, List, [], ◌∷◌, ◌++◌, map, sym, ap, subst, ◌∙◌}
 use Rattle.std.specs.Prelude.{Option, Some, None, Result, Ok, Err, IfOk}
 use Rattle.std.specs.List.{AllByRecursion}
 use Rattle.std.proofs.lemmas.List.{map-append}
@@ -17,6 +17,9 @@ use Rattle.holding.specs.Holds.{Holds, MayJoin}
 use Rattle.holding.specs.declared.holding.Holding.{Holding}
 use Rattle.holding.proofs.GrowLaws.{ledgers_may_grow}
 use Rattle.member_replica.specs.Receiving.{IsJudging, IsSettled, IsSoFar, MaySettle, reading}
+use Rattle.doc_store.specs.Documents.{DecodesSome}
+use Rattle.outside.specs.Work.{Work}
+use Rattle.member_replica.specs.Work.{operations_in, readied, ready_in}
 use Rattle.member_replica.specs.Reports.{refusal_of, report_of}
 use Rattle.member_replica.specs.declared.report.Report.{Report}
 use Rattle.member_replica.specs.declared.report.Refusal.{Refusal}
@@ -83,20 +86,20 @@ without_one j c = record j { inbox = record j.inbox { pool = without c j.inbox.p
 abbrev Judges : Judging → Judging → Change → Type 0
 Judges j k c = (pool : List Change) → judged (record { held = j.ledger; pool = pool; report = report_of j.report }) c (fits j.inbox.members (reading j.inbox.members j.ledger) c) ≡ record { held = k.ledger; pool = without c pool; report = report_of k.report }
 
-pub judged_on : (n : ℕ) (j taken next : Judging) (c : Change) (turns : ℕ) (s : Settling) → j.inbox.members ≡ n → Some c ≡ least_ready j.inbox.members (reading j.inbox.members j.ledger) j.inbox.pool
-    → taken ≡ without_one j c → next.inbox ≡ taken.inbox → Judges taken next c → Goes n turns s j.ledger j.inbox.pool (report_of j.report) → Goes n turns s next.ledger next.inbox.pool (report_of next.report)
-judged_on n j taken next c turns s many e out same judges g =
+pub judged_on : (n : ℕ) (j taken next : Judging) (c : Change) (turns : ℕ) (s : Settling) (read : List Change) → j.inbox.members ≡ n → Some c ≡ least_ready j.inbox.members (reading j.inbox.members j.ledger) j.inbox.pool
+    → taken ≡ without_one j c → next.inbox ≡ taken.inbox → Judges taken next c → Goes n turns s j.ledger j.inbox.pool (report_of j.report) read → Goes n turns s next.ledger next.inbox.pool (report_of next.report) (read ++ c ∷ [])
+judged_on n j taken next c turns s read many e out same judges g =
     let judges_j : Judges j next c = subst (λ k. Judges k next c) out judges in
     let least : least_ready n (reading n j.ledger) j.inbox.pool ≡ Some c = subst (λ k. least_ready k (reading k j.ledger) j.inbox.pool ≡ Some c) many (sym e) in
     let judges_n = subst (λ k. (pool : List Change) → judged (record { held = j.ledger; pool = pool; report = report_of j.report }) c (fits k (reading k j.ledger) c) ≡ record { held = next.ledger; pool = without c pool; report = report_of next.report }) many judges_j in
     let pool : without c j.inbox.pool ≡ next.inbox.pool = sym (ap (λ (w : Waiting). w.pool) same ∙ ap (λ (k : Judging). k.inbox.pool) out) in
-    subst (λ p. Goes n turns s next.ledger p (report_of next.report)) pool (turn n turns s j.ledger j.inbox.pool (report_of j.report) c next.ledger (report_of next.report) g least judges_n)
+    subst (λ p. Goes n turns s next.ledger p (report_of next.report) (read ++ c ∷ [])) pool (turn n turns s j.ledger j.inbox.pool (report_of j.report) read c next.ledger (report_of next.report) g least judges_n)
 
-pub judged_whole : (n : ℕ) (j left : Judging) (turns : ℕ) (s : Settling) → j.inbox.members ≡ n → None ≡ least_ready j.inbox.members (reading j.inbox.members j.ledger) j.inbox.pool
-    → left ≡ j → Goes n turns s j.ledger j.inbox.pool (report_of j.report) → IsSoFar left.ledger left.inbox.pool (report_of left.report) (all_judged turns n (reading n) s)
-judged_whole n j left turns s many e same g =
+pub judged_whole : (n : ℕ) (j left : Judging) (turns : ℕ) (s : Settling) (read : List Change) → j.inbox.members ≡ n → None ≡ least_ready j.inbox.members (reading j.inbox.members j.ledger) j.inbox.pool
+    → left ≡ j → Goes n turns s j.ledger j.inbox.pool (report_of j.report) read → IsSoFar left.ledger left.inbox.pool (report_of left.report) (all_judged turns n (reading n) s)
+judged_whole n j left turns s read many e same g =
     let least : least_ready n (reading n j.ledger) j.inbox.pool ≡ None = subst (λ k. least_ready k (reading k j.ledger) j.inbox.pool ≡ None) many (sym e) in
-    subst (λ k. IsSoFar k.ledger k.inbox.pool (report_of k.report) (all_judged turns n (reading n) s)) (sym same) (no_turn n turns s j.ledger j.inbox.pool (report_of j.report) g least)
+    subst (λ k. IsSoFar k.ledger k.inbox.pool (report_of k.report) (all_judged turns n (reading n) s)) (sym same) (no_turn n turns s j.ledger j.inbox.pool (report_of j.report) read g least)
 
 -- ---- all of it
 
@@ -121,3 +124,11 @@ settled_so n kept waiting offered j k r members ledger p turns ends =
     let start : IsSoFar j.ledger j.inbox.pool (report_of j.report) s = subst (λ h. IsSoFar h j.inbox.pool (report_of j.report) s) (sym ledger) p.far in
     let all : Turns n j k = subst (λ m. Turns m j k) members turns in
     ends (all_judged (length s.pool) n (reading n) s) (all (length s.pool) s start (omega arith))
+
+pub settled_work : (n : ℕ) (kept waiting offered : List Change) (j : Judging) (a b : Work) → j.inbox.members ≡ n → j.ledger ≡ kept → Pooled n kept waiting offered j.inbox.pool (report_of j.report)
+    → ((turns : ℕ) (s : Settling) → IsSoFar j.ledger j.inbox.pool (report_of j.report) s → length s.pool ≤ turns → DecodesSome a b (2 * operations_in (ready_in turns j.inbox.members (reading j.inbox.members) s)))
+    → DecodesSome a b (2 * operations_in (readied n (reading n) kept kept waiting offered))
+settled_work n kept waiting offered j a b members ledger p work =
+    let s = pooled n kept waiting offered in
+    let start : IsSoFar j.ledger j.inbox.pool (report_of j.report) s = subst (λ h. IsSoFar h j.inbox.pool (report_of j.report) s) (sym ledger) p.far in
+    subst (λ m. DecodesSome a b (2 * operations_in (ready_in (length s.pool) m (reading m) s))) members (work (length s.pool) s start (omega arith))

@@ -1,3 +1,4 @@
+pub mod WorkLaws
 pub mod AckLaws
 pub mod BuildLaws
 pub mod ClockLaws

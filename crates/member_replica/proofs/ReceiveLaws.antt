@@ -1,5 +1,5 @@
 -- Deliveries: what a replica hands over to be settled, and the file that is made of it.
-use Rattle.std.proofs.Common.{◌≡◌, ℕ, ◌+◌, ◌<◌, ◌≤◌, ◌^◌, List, [], length, sym, ap, subst, ◌∙◌, arith}
+use Rattle.std.proofs.Common.{◌≡◌, ℕ, ◌+◌, ◌*◌, ◌<◌, ◌≤◌, ◌^◌, List, [], length, sym, ap, subst, ◌∙◌, arith}
 use Rattle.std.specs.Prelude.{None}
 use Rattle.std.specs.List.{AllByRecursion}
 use Rattle.model.specs.Base.{Base, base_of}
@@ -11,6 +11,9 @@ use Rattle.model.specs.Settle.{Settling, settle}
 use Rattle.model.specs.Stands.{IsStored}
 use Rattle.holding.specs.Holds.{Holds}
 use Rattle.holding.specs.declared.holding.Holding.{Holding}
+use Rattle.outside.specs.Work.{Work}
+use Rattle.doc_store.specs.Documents.{DecodesSome}
+use Rattle.member_replica.specs.Work.{operations_in, readied, readied_in}
 use Rattle.member_replica.specs.Inside.{IsReplica}
 use Rattle.member_replica.specs.declared.built.Replica.TheInside.{Inside}
 use Rattle.member_replica.specs.Receiving.{IsSettled, MaySettle}
@@ -87,3 +90,12 @@ received_is f g kept waiting is held pool =
     let to_kept = held ∙ ap (λ (s : Settling). s.held) same in
     let to_waiting = pool ∙ ap (λ (s : Settling). s.pool) same in
     λ i. record f { kept = to_kept i; waiting = to_waiting i }
+
+-- What is read then is what the delivery says.
+pub received_work : (f g : File) (kept waiting offered : List Change) (a b : Work) → IsDelivery f g → kept ≡ f.kept → waiting ≡ f.waiting → offered ≡ g.kept
+    → DecodesSome a b (2 * operations_in (readied f.members (held_behind (base_of f.members [] 0)) kept kept waiting offered)) → DecodesSome a b (2 * operations_in (readied_in f g.kept))
+received_work f g kept waiting offered a b is same_kept same_waiting same_offered work =
+    let base = base_is f is.base in
+    let same : readied f.members (held_behind (base_of f.members [] 0)) kept kept waiting offered ≡ readied_in f g.kept =
+    λ i. readied f.members (held_behind (sym base i)) (same_kept i) (same_kept i) (same_waiting i) (same_offered i) in
+    subst (λ (changes : List Change). DecodesSome a b (2 * operations_in changes)) same work

@@ -2,7 +2,7 @@
 use Rattle.std.proofs.Common.{◌≡◌, ℕ, zero, suc, ◌+◌, ◌<◌, ◌≤◌, ◌&&◌, true, false, cond, eqb, not, Bool, List, [], ◌∷◌, ◌++◌, length, map, refl, sym, ap, subst, ◌∙◌, arith}
 use Rattle.std.specs.Prelude.{Some, None, filter, filter_map, fold, take, slice_get, slice_index, IfSome}
 use Rattle.std.specs.List.{AllByRecursion, cons_option, list_all}
-use Rattle.std.proofs.lemmas.List.{length-append, length-take}
+use Rattle.std.proofs.lemmas.List.{append_assoc, length-append, length-take}
 use Rattle.std.proofs.lemmas.List.FromFn.{length-map-range_with_len, get_or-map-range_with_len}
 use Rattle.std.proofs.lemmas.List.Sums.{count_by-le-length, fold_more}
 use Rattle.std.proofs.lemmas.Option.{same_Some, slice_get_within, get_or_from_slice_get}
@@ -29,6 +29,8 @@ use Rattle.causal_inbox.proofs.NameLaws.{in_order_already, not_back, other_name}
 use Rattle.causal_inbox.proofs.OfferLaws.{names_rise, rise_kept}
 use Rattle.causal_inbox.proofs.OrderLaws.{any_order}
 use Rattle.member_replica.specs.Receiving.{IsSoFar, reading, told}
+use Rattle.member_replica.specs.Work.{operations_in, ready_in}
+use Rattle.member_replica.proofs.WorkLaws.{read_then}
 
 abbrev so_far : List Change → List Change → Report → Settling
 so_far h pool r = record { held = h; pool = pool; report = r }
@@ -207,23 +209,24 @@ least_one P n past pool c all e =
     let is : Q c = subst (λ o. IfSome o Q) e (least_is Q (filter ready pool) each) in
     record { each = is.0; ready = is.1.0; fewer = is.1.1 }
 
--- Settling from s on has come so far, and there are turns enough left.
-pub record Goes (n turns : ℕ) (s : Settling) (h sorted : List Change) (r : Report) : Type 0 where
+-- Settling from s on has come so far, these were ready and were judged, and there are turns enough left.
+pub record Goes (n turns : ℕ) (s : Settling) (h sorted : List Change) (r : Report) (read : List Change) : Type 0 where
   pub left : ℕ
   pub now : Settling
   pub far : IsSoFar h sorted r now
   pub enough : length now.pool ≤ left
   pub same : all_judged turns n (reading n) s ≡ all_judged left n (reading n) now
+  pub reads : ready_in turns n (reading n) s ≡ read ++ ready_in left n (reading n) now
 
-pub goes : (n turns : ℕ) (s : Settling) (h sorted : List Change) (r : Report) → IsSoFar h sorted r s → length s.pool ≤ turns → Goes n turns s h sorted r
-goes n turns s h sorted r far enough = record { left = turns; now = s; far = far; enough = enough; same = refl }
+pub goes : (n turns : ℕ) (s : Settling) (h sorted : List Change) (r : Report) → IsSoFar h sorted r s → length s.pool ≤ turns → Goes n turns s h sorted r []
+goes n turns s h sorted r far enough = record { left = turns; now = s; far = far; enough = enough; same = refl; reads = refl }
 
 nothing_left : (xs : List Change) (c : Change) → Fewer xs c → length xs ≤ 0 → ⊥
 nothing_left xs c l k = omega arith
 
-pub turn : (n turns : ℕ) (s : Settling) (h sorted : List Change) (r : Report) (c : Change) (h' : List Change) (r' : Report) → Goes n turns s h sorted r → least_ready n (reading n h) sorted ≡ Some c
-    → ((pool : List Change) → judged (so_far h pool r) c (fits n (reading n h) c) ≡ so_far h' (without c pool) r') → Goes n turns s h' (without c sorted) r'
-turn n turns s h sorted r c h' r' g e j =
+pub turn : (n turns : ℕ) (s : Settling) (h sorted : List Change) (r : Report) (read : List Change) (c : Change) (h' : List Change) (r' : Report) → Goes n turns s h sorted r read → least_ready n (reading n h) sorted ≡ Some c
+    → ((pool : List Change) → judged (so_far h pool r) c (fits n (reading n h) c) ≡ so_far h' (without c pool) r') → Goes n turns s h' (without c sorted) r' (read ++ c ∷ [])
+turn n turns s h sorted r read c h' r' g e j =
     let u = g.now in
     let law = any_order sorted u.pool g.far.pool in
     let held : u.held ≡ h = ap (λ (t : Settling). t.held) g.far.is in
@@ -231,16 +234,39 @@ turn n turns s h sorted r c h' r' g e j =
     let less = (least_one (λ d. Unit {0}) n (reading n u.held) u.pool c (nothing_said u.pool) least).fewer in
     let m = fits n (reading n h) c in
     let next : next_judged n (reading n) u ≡ judged u c m = ap (judged_next n (reading n u.held) u) least ∙ ap (λ l. judged u c (fits n (reading n l) c)) held in
-    elim (g.left) as (λ k. length u.pool ≤ k → all_judged turns n (reading n) s ≡ all_judged k n (reading n) u → Goes n turns s h' (without c sorted) r') [
-      | zero ↦ λ l _. absurd (nothing_left u.pool c less l)
-      | suc k ↦ λ l same. record {
+    elim (g.left) as (λ k. length u.pool ≤ k → all_judged turns n (reading n) s ≡ all_judged k n (reading n) u → ready_in turns n (reading n) s ≡ read ++ ready_in k n (reading n) u
+    → Goes n turns s h' (without c sorted) r' (read ++ c ∷ [])) [
+      | zero ↦ λ l _ _. absurd (nothing_left u.pool c less l)
+      | suc k ↦ λ l same reads. record {
         left = k;
         now = judged u c m;
         far = by_pool h' (without c sorted) (without c u.pool) r' (judged u c m) (ap (λ t. judged t c m) g.far.is ∙ j u.pool) (law.taken (Some c));
         enough = subst (λ (p : List Change). length p ≤ k) (sym (judged_pool u c m)) (omega arith);
         same = same ∙ ap (all_judged k n (reading n)) next;
+        reads = reads ∙ (λ i. read ++ cons_option (least i) (ready_in k n (reading n) (next i))) ∙ sym (append_assoc read (c ∷ []) (ready_in k n (reading n) (judged u c m)));
       }
-    ] g.enough g.same
+    ] g.enough g.same g.reads
+  where
+    nothing_said : (xs : List Change) → AllByRecursion (λ d. Unit {0}) xs
+    nothing_said [] = tt
+    nothing_said (x ∷ xs) = (tt, nothing_said xs)
+
+-- the next one is among those that are ready
+pub read_next : (n turns : ℕ) (s : Settling) (h sorted : List Change) (r : Report) (read : List Change) (c : Change) → Goes n turns s h sorted r read → least_ready n (reading n h) sorted ≡ Some c
+    → operations_in read + length c.operations ≤ operations_in (ready_in turns n (reading n) s)
+read_next n turns s h sorted r read c g e =
+    let u = g.now in
+    let held : u.held ≡ h = ap (λ (t : Settling). t.held) g.far.is in
+    let least : least_ready n (reading n u.held) u.pool ≡ Some c = ap (λ l. least_ready n (reading n l) u.pool) held ∙ (any_order sorted u.pool g.far.pool).ready n (reading n h) ∙ e in
+    let less = (least_one (λ d. Unit {0}) n (reading n u.held) u.pool c (nothing_said u.pool) least).fewer in
+    elim (g.left) as (λ k. length u.pool ≤ k → ready_in turns n (reading n) s ≡ read ++ ready_in k n (reading n) u → operations_in read + length c.operations ≤ operations_in (ready_in turns n (reading n) s)) [
+      | zero ↦ λ l _. absurd (nothing_left u.pool c less l)
+      | suc k ↦ λ l reads.
+          let rest = ready_in k n (reading n) (next_judged n (reading n) u) in
+          let all = ap operations_in (reads ∙ ap (λ o. read ++ cons_option o rest) least) in
+          let parts = read_then read c rest in
+          omega arith
+    ] g.enough g.reads
   where
     nothing_said : (xs : List Change) → AllByRecursion (λ d. Unit {0}) xs
     nothing_said [] = tt
@@ -251,8 +277,8 @@ stuck zero n s e = refl
 stuck (suc turns) n s e =
     let same : next_judged n (reading n) s ≡ s = ap (judged_next n (reading n s.held) s) e in ap (all_judged turns n (reading n)) same ∙ stuck turns n s e
 
-pub no_turn : (n turns : ℕ) (s : Settling) (h sorted : List Change) (r : Report) → Goes n turns s h sorted r → least_ready n (reading n h) sorted ≡ None → IsSoFar h sorted r (all_judged turns n (reading n) s)
-no_turn n turns s h sorted r g e =
+pub no_turn : (n turns : ℕ) (s : Settling) (h sorted : List Change) (r : Report) (read : List Change) → Goes n turns s h sorted r read → least_ready n (reading n h) sorted ≡ None → IsSoFar h sorted r (all_judged turns n (reading n) s)
+no_turn n turns s h sorted r read g e =
     let u = g.now in
     let held : u.held ≡ h = ap (λ (t : Settling). t.held) g.far.is in
     let least : least_ready n (reading n u.held) u.pool ≡ None = ap (λ l. least_ready n (reading n l) u.pool) held ∙ (any_order sorted u.pool g.far.pool).ready n (reading n h) ∙ e in

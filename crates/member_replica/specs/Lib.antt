@@ -5,3 +5,4 @@ pub mod Makings
 pub mod Reports
 pub mod Ledgers
 pub mod Receiving
+pub mod Work

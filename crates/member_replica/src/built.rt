@@ -1,12 +1,15 @@
 //! The parts of a file with what they hold.
 
-ghost use Rattle.std.specs.Prelude.{◌≡◌, ◌≢◌, None};
+ghost use Rattle.std.specs.Prelude.{◌≡◌, ◌≢◌, ◌*◌, IfOk, sum_by};
+ghost use Rattle.model.specs.Cost.{move_count};
 ghost use Rattle.model.specs.File.{bundle};
-ghost use Rattle.model.specs.Reading.{base_in, state_in, unfit_in};
+ghost use Rattle.model.specs.Reading.{base_in, state_in};
 ghost use Rattle.model.specs.State.{atoms};
-ghost use Rattle.doc_store.specs.Documents.{IsDocument};
+ghost use Rattle.tree_log.specs.Moves.{Worked};
+ghost use Rattle.doc_store.specs.Documents.{DecodesSome, IsDocument};
 ghost use Rattle.doc_store.specs.Kept.{state_of};
 ghost use Rattle.member_replica.specs.Replicas.{Builds};
+ghost use Rattle.member_replica.specs.Work.{operations_in};
 ghost use Rattle.member_replica.specs.declared.built.BuildFault.TheVariants.{NoMemory as OutOfMemory};
 
 use doc_store::Doc;
@@ -62,14 +65,15 @@ impl<'a> Model for Replica<'a> {
 
 impl<'a> Replica<'a> {
     /// The replica of a file, or its first kept change that isn't ready or doesn't fit the ones before it. Counts the operations
-    /// that it reads and the moves that it makes.
+    /// that it reads, each at most twice. No move is done.
     pub fn build(
         alloc: Global,
         parts: FileParts<'a>,
         tally: &mut Tally,
     ) -> Result<Replica<'a>, BuildFault>
         requires { parts.kind ≢ bundle }
-        ensures { Builds parts.entry result }
+        ensures builds { Builds parts.entry result }
+        ensures tally { DecodesSome tally.old tally.new (2 * operations_in parts.entry.kept) }
     {
         let mut holding = Holding::new(alloc, parts.head().doc.n)?;
         let kept = parts.kept();
@@ -88,20 +92,12 @@ impl<'a> Replica<'a> {
         Ok(Replica { parts, holding })
     }
 
-    /// The parts of the file.
-    pub fn parts(&self) -> &FileParts<'a>
-        ensures parts { result.now ≡ self.now }
-        ensures kind { self.now.kind ≢ bundle }
-        ensures fit { unfit_in self.now ≡ None }
+    /// The document. Counts the moves of the kept changes, which are done now.
+    pub fn into_doc(self, tally: &mut Tally) -> Result<Doc, AllocError>
+        ensures document { IfOk result (λ d. IsDocument d (base_in self.entry).state (atoms self.entry.kept)) }
+        ensures state { IfOk result (λ d. state_of d ≡ state_in self.entry) }
+        ensures tally { Worked tally.old tally.new (sum_by move_count self.entry.kept) }
     {
-        &self.parts
-    }
-
-    /// The document.
-    pub fn doc(&self) -> &Doc
-        ensures document { IsDocument result.now (base_in self.now).state (atoms self.now.kept) }
-        ensures state { state_of result.now ≡ state_in self.now }
-    {
-        self.holding.document()
+        self.holding.settle(tally)
     }
 }

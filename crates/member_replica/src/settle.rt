@@ -1,6 +1,6 @@
 //! Receiving, on shelves of changes.
 
-ghost use Rattle.std.specs.Prelude.{◌≡◌, ◌≤◌, ◌<◌, ◌^◌, ◌+◌, ℕ, List, [], true, IfOk, OnOk, length, fold};
+ghost use Rattle.std.specs.Prelude.{◌≡◌, ◌≤◌, ◌<◌, ◌^◌, ◌+◌, ◌*◌, ℕ, List, [], true, IfOk, OnOk, length, fold};
 ghost use Rattle.std.specs.List.{AllByRecursion};
 ghost use Rattle.model.specs.Base.{base_of};
 ghost use Rattle.model.specs.Change.{Change, IsChange, name_of};
@@ -9,7 +9,9 @@ ghost use Rattle.model.specs.Settle.{Settling, all_judged, judged, least_ready, 
 ghost use Rattle.causal_inbox.specs.Counted.{counted};
 ghost use Rattle.causal_inbox.specs.Offers.{Compares, taken_out};
 ghost use Rattle.member_replica.specs.Receiving.{IsJudging, IsSettled, IsSoFar, MaySettle, reading, told};
+ghost use Rattle.doc_store.specs.Documents.{DecodesSome};
 ghost use Rattle.member_replica.specs.Reports.{refusal_of, report_of};
+ghost use Rattle.member_replica.specs.Work.{operations_in, readied, ready_in};
 ghost use Rattle.replica.specs.FaultText.{misfit_of};
 
 use crate::ledger::Ledger;
@@ -49,8 +51,10 @@ pub(crate) fn settle<'a>(
     tally: &mut Tally,
 ) -> Result<Settled<'a>, AllocError>
     requires { (n : ℕ) × MaySettle n holding kept.now waiting.now offered.now }
-    ensures { (n : ℕ) → MaySettle n holding kept.now waiting.now offered.now
+    ensures settled { (n : ℕ) → MaySettle n holding kept.now waiting.now offered.now
         → IfOk result (IsSettled (settles n (held_behind (base_of n [] 0)) kept.now kept.now waiting.now offered.now)) }
+    ensures tally { (n : ℕ) → MaySettle n holding kept.now waiting.now offered.now
+        → DecodesSome tally.old tally.new (2 * operations_in (readied n (held_behind (base_of n [] 0)) kept.now kept.now waiting.now offered.now)) }
 {
     let held = holding.counts();
     let (mut inbox, known) = Inbox::new(alloc, copy_of(alloc, waiting)?, &held)?;
@@ -142,10 +146,14 @@ impl<'a> Judging<'a> {
     fn judge_all(self, tally: &mut Tally) -> Result<Judging<'a>, AllocError>
         requires judging { IsJudging self }
         requires few { self.report.accepted + length self.inbox.pool < 2 ^ 32 }
-        ensures { let n = self.entry.inbox.members in
+        ensures judged { let n = self.entry.inbox.members in
             IfOk result (λ j. (turns : ℕ) (s : Settling) → IsSoFar self.entry.ledger self.entry.inbox.pool (report_of self.entry.report) s
             → length s.pool ≤ turns
             → IsSoFar j.ledger j.inbox.pool (report_of j.report) (all_judged turns n (reading n) s)) }
+        ensures tally { let n = self.entry.inbox.members in
+            (turns : ℕ) (s : Settling) → IsSoFar self.entry.ledger self.entry.inbox.pool (report_of self.entry.report) s
+            → length s.pool ≤ turns
+            → DecodesSome tally.old tally.new (2 * operations_in (ready_in turns n (reading n) s)) }
     {
         let mut judging = self;
         while let Some(block) = judging.next_ready() {
@@ -179,6 +187,7 @@ impl<'a> Judging<'a> {
             IfOk result (λ j. (pool : List Change)
             → judged (record { held = self.entry.ledger; pool = pool; report = report_of self.entry.report }) block.entry (fits n (reading n self.entry.ledger) block.entry)
             ≡ record { held = j.ledger; pool = without block.entry pool; report = report_of j.report }) }
+        ensures tally { DecodesSome tally.old tally.new (2 * length block.entry.operations) }
     {
         let Judging {
             holding,

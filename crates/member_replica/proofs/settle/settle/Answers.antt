@@ -9,7 +9,7 @@ use Rattle.causal_inbox.specs.Counted.{counted}
 use Rattle.member_replica.specs.Receiving.{IsSettled, IsSoFar, reading}
 use Rattle.member_replica.specs.Reports.{report_of}
 use Rattle.member_replica.proofs.SettleLaws.{as_many, are_pooled, few_begun}
-use Rattle.member_replica.proofs.JudgeLaws.{begins_judging, settled_so, if_ok}
+use Rattle.member_replica.proofs.JudgeLaws.{begins_judging, settled_so, settled_work, if_ok}
 use Rattle.member_replica.proofs.settle.settle.Goals as goal
 
 pub new-requires-clause-few : goal.new-requires-clause-few
@@ -74,8 +74,8 @@ judge_all-requires-clause-few c =
     c.in_ok-offer_all.ensures.offers in
     omega (arith, p.accepted, p.few, m.few)
 
-pub returns : goal.returns
-returns c n m =
+pub returns-clause-settled : goal.returns-clause-settled
+returns-clause-settled c n m =
     let kept = c.args.kept.now in
     let waiting = c.args.waiting.now in
     let held = c.counts-held.result in
@@ -87,5 +87,31 @@ returns c n m =
     let members = c.in_ok-offer_all.ensures.members ∙ c.in_ok-inbox.ensures.members ∙ as_many n (reading n kept) held e in
     let j = c.in_ok-judge_all.field-0 in
     if_ok (λ r. (s : Settling) → IsSoFar j.ledger j.inbox.pool (report_of j.report) s → IsSettled (rest s) r) (IsSettled (settle n (reading n) kept kept waiting c.args.offered.now)) c.finish.result
-    (λ r ends. settled_so n kept waiting c.args.offered.now (record { holding = c.args.holding; ledger = c.in_ok-ledger.ledger; inbox = c.offer_all.new.inbox; report = c.offer_all.new.report }) j r members c.in_ok-ledger.ensures p c.in_ok-judge_all.ensures ends)
+    (λ r ends. settled_so n kept waiting c.args.offered.now (record { holding = c.args.holding; ledger = c.in_ok-ledger.ledger; inbox = c.offer_all.new.inbox; report = c.offer_all.new.report }) j r members c.in_ok-ledger.ensures p c.in_ok-judge_all.ensures.judged ends)
     c.finish.ensures
+
+pub returns-in_err-judge_all-clause-tally : goal.returns-in_err-judge_all-clause-tally
+returns-in_err-judge_all-clause-tally c = λ n m.
+    let kept = c.args.kept.now in
+    let waiting = c.args.waiting.now in
+    let held = c.counts-held.result in
+    let copy = c.in_ok-copy_of.ensures in
+    let e = c.counts-held.ensures n (base_of n [] 0) kept m.holds in
+    let p = are_pooled n kept waiting c.args.offered.now held c.in_ok-inbox.inbox.pool c.offer_all.new.inbox.pool c.in_ok-inbox.known (report_of c.begun-report.result) (report_of c.offer_all.new.report) e m.waiting m.offered m.by_name
+    (c.in_ok-inbox.ensures.pool ∙ ap (λ (cs : List Change). (begun (counted held) [] cs).pool) copy) (c.in_ok-inbox.ensures.known ∙ ap (λ (cs : List Change). (begun (counted held) [] cs).report.known) copy) c.begun-report.ensures
+    c.in_ok-offer_all.ensures.offers in
+    let members = c.in_ok-offer_all.ensures.members ∙ c.in_ok-inbox.ensures.members ∙ as_many n (reading n kept) held e in
+    settled_work n kept waiting c.args.offered.now (record { holding = c.args.holding; ledger = c.in_ok-ledger.ledger; inbox = c.offer_all.new.inbox; report = c.offer_all.new.report }) c.args.tally.now c.judge_all.new.tally members c.in_ok-ledger.ensures p c.judge_all.ensures.tally
+
+pub returns-clause-tally : goal.returns-clause-tally
+returns-clause-tally c = λ n m.
+    let kept = c.args.kept.now in
+    let waiting = c.args.waiting.now in
+    let held = c.counts-held.result in
+    let copy = c.in_ok-copy_of.ensures in
+    let e = c.counts-held.ensures n (base_of n [] 0) kept m.holds in
+    let p = are_pooled n kept waiting c.args.offered.now held c.in_ok-inbox.inbox.pool c.offer_all.new.inbox.pool c.in_ok-inbox.known (report_of c.begun-report.result) (report_of c.offer_all.new.report) e m.waiting m.offered m.by_name
+    (c.in_ok-inbox.ensures.pool ∙ ap (λ (cs : List Change). (begun (counted held) [] cs).pool) copy) (c.in_ok-inbox.ensures.known ∙ ap (λ (cs : List Change). (begun (counted held) [] cs).report.known) copy) c.begun-report.ensures
+    c.in_ok-offer_all.ensures.offers in
+    let members = c.in_ok-offer_all.ensures.members ∙ c.in_ok-inbox.ensures.members ∙ as_many n (reading n kept) held e in
+    settled_work n kept waiting c.args.offered.now (record { holding = c.args.holding; ledger = c.in_ok-ledger.ledger; inbox = c.offer_all.new.inbox; report = c.offer_all.new.report }) c.args.tally.now c.judge_all.new.tally members c.in_ok-ledger.ensures p c.judge_all.ensures.tally

@@ -4,7 +4,7 @@ use Rattle.std.proofs.lemmas.Result.{err_from_is_err_and}
 use Rattle.model.specs.Change.{Change, IsChange}
 use Rattle.model.specs.Command.{made_edit, one_made}
 use Rattle.model.specs.File.{File}
-use Rattle.model.specs.Reading.{held_in, state_in}
+use Rattle.model.specs.Reading.{base_in, held_in}
 use Rattle.model.specs.Stands.{IsStored}
 use Rattle.op_grammar.specs.Operations.{operations_of}
 use Rattle.doc_store.specs.Edits.{edit_of}
@@ -21,8 +21,8 @@ make-requires-clause-within c =
     let f = c.self.inside.parts in
     let m = c.at-member.result.now in
     let first = sym (ap (λ (h : FileHead). slice_get h.mine 0) c.head.ensures.head) ∙ c.at-member.ensures.at in
-    let state = c.doc.ensures.state ∙ ap state_in (sym c.self.view_is) in
-    let edits = edits_with f (edit_of c.args.edit.now) m (operations_of c.in_ok-plan.plan) (state_of c.doc.result.now) (record { is_file = c.head.ensures.is_file; base = c.self.invariant.base }) c.self.invariant.fit c.requires.form first state c.in_ok-plan.ensures.0 c.in_ok-plan.ensures.1 in
+    let state = (c.in_ok-doc.ensures.document f.members (base_in f) f.kept c.self.invariant.holds).state in
+    let edits = edits_with f (edit_of c.args.edit.now) m (operations_of c.in_ok-plan.plan) (state_of c.in_ok-doc.doc) (record { is_file = c.head.ensures.is_file; base = c.self.invariant.base }) c.self.invariant.fit c.requires.form first state c.in_ok-plan.ensures.0 c.in_ok-plan.ensures.1 in
     subst (λ n. m < n) (sym (counts_length f [] c.of-makings.result c.of-makings.ensures)) edits.below
 
 pub make-requires-clause-change : goal.make-requires-clause-change
@@ -32,12 +32,12 @@ make-requires-clause-change c = λ d clocked.
     let makings = c.of-makings.result in
     let os = operations_of c.in_ok-plan.plan in
     let first = sym (ap (λ (h : FileHead). slice_get h.mine 0) c.head.ensures.head) ∙ c.at-member.ensures.at in
-    let state = c.doc.ensures.state ∙ ap state_in (sym c.self.view_is) in
-    let edits = edits_with f (edit_of c.args.edit.now) m os (state_of c.doc.result.now) (record { is_file = c.head.ensures.is_file; base = c.self.invariant.base }) c.self.invariant.fit c.requires.form first state c.in_ok-plan.ensures.0 c.in_ok-plan.ensures.1 in
+    let state = (c.in_ok-doc.ensures.document f.members (base_in f) f.kept c.self.invariant.holds).state in
+    let edits = edits_with f (edit_of c.args.edit.now) m os (state_of c.in_ok-doc.doc) (record { is_file = c.head.ensures.is_file; base = c.self.invariant.base }) c.self.invariant.fit c.requires.form first state c.in_ok-plan.ensures.0 c.in_ok-plan.ensures.1 in
     subst (λ n. IsChange n d) (sym (counts_length f [] makings c.of-makings.ensures)) (next_in_form f [] makings m os d c.of-makings.ensures edits.below edits.planned clocked)
 
-pub returns-in_err-make : goal.returns-in_err-make
-returns-in_err-make c =
+pub returns-in_err-make-clause-makes : goal.returns-in_err-make-clause-makes
+returns-in_err-make-clause-makes c =
     let f = c.self.inside.parts in
     let m = c.at-member.result.now in
     let makings = c.of-makings.result in
@@ -45,8 +45,8 @@ returns-in_err-make c =
     let os = operations_of c.in_ok-plan.plan in
     let fault = c.in_err-make.field-0.0 in
     let first = sym (ap (λ (h : FileHead). slice_get h.mine 0) c.head.ensures.head) ∙ c.at-member.ensures.at in
-    let state = c.doc.ensures.state ∙ ap state_in (sym c.self.view_is) in
-    let edits = edits_with f e m os (state_of c.doc.result.now) (record { is_file = c.head.ensures.is_file; base = c.self.invariant.base }) c.self.invariant.fit c.requires.form first state c.in_ok-plan.ensures.0 c.in_ok-plan.ensures.1 in
+    let state = (c.in_ok-doc.ensures.document f.members (base_in f) f.kept c.self.invariant.holds).state in
+    let edits = edits_with f e m os (state_of c.in_ok-doc.doc) (record { is_file = c.head.ensures.is_file; base = c.self.invariant.base }) c.self.invariant.fit c.requires.form first state c.in_ok-plan.ensures.0 c.in_ok-plan.ensures.1 in
     let p = err_from_is_err_and c.from_residual-in_err-make.result c.from_residual-in_err-make.ensures.1 in
     rw (p.1, p.2)
     (subst (λ (g : File). Makes g (made_edit g.members (held_in g) g.mine e) (Err fault)) c.self.view_is
@@ -59,23 +59,23 @@ stored-requires c =
     let makings = c.of-makings.result in
     let os = operations_of c.in_ok-plan.plan in
     let first = sym (ap (λ (h : FileHead). slice_get h.mine 0) c.head.ensures.head) ∙ c.at-member.ensures.at in
-    let state = c.doc.ensures.state ∙ ap state_in (sym c.self.view_is) in
-    let edits = edits_with f (edit_of c.args.edit.now) m os (state_of c.doc.result.now) (record { is_file = c.head.ensures.is_file; base = c.self.invariant.base }) c.self.invariant.fit c.requires.form first state c.in_ok-plan.ensures.0 c.in_ok-plan.ensures.1 in
+    let state = (c.in_ok-doc.ensures.document f.members (base_in f) f.kept c.self.invariant.holds).state in
+    let edits = edits_with f (edit_of c.args.edit.now) m os (state_of c.in_ok-doc.doc) (record { is_file = c.head.ensures.is_file; base = c.self.invariant.base }) c.self.invariant.fit c.requires.form first state c.in_ok-plan.ensures.0 c.in_ok-plan.ensures.1 in
     let (bytes, stored) = c.requires.stored in
     let room = edit_has_room bytes f (subst (IsStored bytes) (sym c.self.view_is) stored) in
     let (d, clocked, more) = c.in_ok-make.ensures in
     (d ∷ [], making_more f [] makings c.make.new.self m os d c.of-makings.ensures edits.below edits.planned room clocked more)
 
-pub returns : goal.returns
-returns c =
+pub returns-clause-makes : goal.returns-clause-makes
+returns-clause-makes c =
     let f = c.self.inside.parts in
     let m = c.at-member.result.now in
     let makings = c.of-makings.result in
     let e = edit_of c.args.edit.now in
     let os = operations_of c.in_ok-plan.plan in
     let first = sym (ap (λ (h : FileHead). slice_get h.mine 0) c.head.ensures.head) ∙ c.at-member.ensures.at in
-    let state = c.doc.ensures.state ∙ ap state_in (sym c.self.view_is) in
-    let edits = edits_with f e m os (state_of c.doc.result.now) (record { is_file = c.head.ensures.is_file; base = c.self.invariant.base }) c.self.invariant.fit c.requires.form first state c.in_ok-plan.ensures.0 c.in_ok-plan.ensures.1 in
+    let state = (c.in_ok-doc.ensures.document f.members (base_in f) f.kept c.self.invariant.holds).state in
+    let edits = edits_with f e m os (state_of c.in_ok-doc.doc) (record { is_file = c.head.ensures.is_file; base = c.self.invariant.base }) c.self.invariant.fit c.requires.form first state c.in_ok-plan.ensures.0 c.in_ok-plan.ensures.1 in
     let (bytes, stored) = c.requires.stored in
     let room = edit_has_room bytes f (subst (IsStored bytes) (sym c.self.view_is) stored) in
     let (d, clocked, more) = c.in_ok-make.ensures in

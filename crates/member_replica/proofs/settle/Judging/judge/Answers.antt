@@ -1,9 +1,10 @@
-use Rattle.std.proofs.Common.{[], refl, sym, ap, ◌∙◌}
+use Rattle.std.proofs.Common.{[], length, refl, sym, ap, ◌∙◌}
 use Rattle.std.specs.Option.{option_map}
 use Rattle.model.specs.Base.{base_of}
 use Rattle.replica.specs.FaultText.{misfit_of}
 use Rattle.member_replica.specs.Reports.{report_of}
 use Rattle.member_replica.proofs.JudgeLaws.{may_join, joined_judging, accepted, refused, refused_more}
+use Rattle.member_replica.proofs.WorkLaws.{decodes_joined, decodes_twice}
 use Rattle.member_replica.proofs.settle.Judging.judge.Goals as goal
 
 pub join-requires : goal.join-requires
@@ -41,3 +42,15 @@ returns-clause-judged c pool =
     let more = c.in_ok-push-in-Some.ensures.items in
     refused j c.args.block c.requires.judging c.requires.block c.requires.ready c.in-Some.misfit _ pool some
     (λ i. record (report_of j.report) { refused = refused_more j.report.refused.items c.refusal.result c.push.new.self.items _ more c.refusal.ensures i })
+
+pub returns-in_err-holding-in-None-clause-tally : goal.returns-in_err-holding-in-None-clause-tally
+returns-in_err-holding-in-None-clause-tally c =
+    decodes_twice c.args.tally.now c.misfit.new.tally c.join.new.tally (length c.args.block.operations) c.in_ok-misfit.ensures.tally (decodes_joined c.misfit.new.tally c.join.new.tally c.args.block c.join.result c.join.ensures.decoded c.join.ensures.moves)
+
+pub returns-in_err-add-in-None-clause-tally : goal.returns-in_err-add-in-None-clause-tally
+returns-in_err-add-in-None-clause-tally c =
+    decodes_twice c.args.tally.now c.misfit.new.tally c.join.new.tally (length c.args.block.operations) c.in_ok-misfit.ensures.tally (decodes_joined c.misfit.new.tally c.join.new.tally c.args.block c.join.result c.join.ensures.decoded c.join.ensures.moves)
+
+pub returns-in-None-clause-tally : goal.returns-in-None-clause-tally
+returns-in-None-clause-tally c =
+    decodes_twice c.args.tally.now c.misfit.new.tally c.join.new.tally (length c.args.block.operations) c.in_ok-misfit.ensures.tally (decodes_joined c.misfit.new.tally c.join.new.tally c.args.block c.join.result c.join.ensures.decoded c.join.ensures.moves)

@@ -1,5 +1,8 @@
-use Rattle.std.proofs.Common.{◌≡◌, ◌<◌, ◌≤◌, ◌+◌, ◌^◌, ℕ, length}
+use Rattle.std.proofs.Common.{◌≡◌, ◌<◌, ◌≤◌, ◌+◌, ◌*◌, ◌^◌, ℕ, List, length}
+use Rattle.model.specs.Change.{Change}
 use Rattle.model.specs.Settle.{Settling}
+use Rattle.doc_store.specs.Documents.{DecodesSome}
+use Rattle.member_replica.specs.Work.{operations_in}
 use Rattle.member_replica.specs.Receiving.{IsJudging, IsSoFar}
 use Rattle.member_replica.specs.Reports.{report_of}
 use Rattle.member_replica.proofs.SettleLaws.{Goes}
@@ -11,7 +14,8 @@ invariant-loop-block l = record {
   members : l.judging.inbox.members ≡ l.initial.judging.inbox.members;
   few : l.judging.report.accepted + length l.judging.inbox.pool < 2 ^ 32;
   goes : (turns : ℕ) (s : Settling) → IsSoFar l.initial.judging.ledger l.initial.judging.inbox.pool (report_of l.initial.judging.report) s → length s.pool ≤ turns
-      → Goes l.initial.judging.inbox.members turns s l.judging.ledger l.judging.inbox.pool (report_of l.judging.report);
+      → (read : List Change) × Goes l.initial.judging.inbox.members turns s l.judging.ledger l.judging.inbox.pool (report_of l.judging.report) read
+      × DecodesSome l.initial.tally l.tally (2 * operations_in read);
 }
 
 abbrev pub decreases-loop-block : goal.decreases-loop-block
