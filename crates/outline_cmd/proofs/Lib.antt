@@ -16,6 +16,7 @@ pub mod BundleLaws
 pub mod DeliverLaws
 pub mod LinkLaws
 pub mod TaskLaws
+pub mod WorkLaws
 pub mod OpenLaws
 pub mod PipeLaws
 pub mod RunEnds

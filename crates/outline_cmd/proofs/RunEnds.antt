@@ -32,7 +32,7 @@ finished _ meant a before after means is store put = absurd is
 -- ---- loads
 
 -- Loads stay those of a command where later calls count no more failed loads.
-later_loads : (old mid new : Seen) (order : Order) (loads : Loads) → new.load_faults ≡ mid.load_faults → new.last_failed ≡ mid.last_failed → AreLoads old mid (roles order) loads → AreLoads old new (roles order) loads
+pub later_loads : (old mid new : Seen) (order : Order) (loads : Loads) → new.load_faults ≡ mid.load_faults → new.last_failed ≡ mid.last_failed → AreLoads old mid (roles order) loads → AreLoads old new (roles order) loads
 later_loads old mid new order loads count name are = record {
   input = later_load old mid new (roles order).input loads.input count name are.input;
   second = later_load old mid new (roles order).second loads.second count name are.second;

@@ -5,6 +5,7 @@ pub mod Sample
 pub mod Scope
 pub mod Meaning
 pub mod Ending
+pub mod Works
 pub mod Run
 pub mod Ledgers
 pub mod OfBytes

@@ -12,7 +12,8 @@ ghost use Rattle.outline_cmd.specs.Meaning.{Loaded, exactly, reads};
 ghost use Rattle.outline_cmd.specs.Outcome.{told};
 ghost use Rattle.outline_cmd.specs.Made.{made_outcome};
 ghost use Rattle.outline_cmd.specs.Stages.{answer_of, Follows, Refuses};
-ghost use Rattle.outline_cmd.specs.Tasks.{SaysEdit, answering, order_made_of};
+ghost use Rattle.outline_cmd.specs.Tasks.{SaysEdit, answering, order_made_of, over};
+ghost use Rattle.outline_cmd.specs.Works.{ReadsOne};
 
 use crate::answer::{Answer, Store};
 use crate::edit_words::EditWords;
@@ -20,6 +21,7 @@ use crate::lines::made_text;
 use crate::opened::{open, replica_of};
 use crate::status::Status;
 use member_replica::{Made, MakeFault};
+use outside::Tally;
 use replica::{MEMBER_FILE, MemberFault};
 use std::alloc::Global;
 
@@ -75,18 +77,20 @@ pub(crate) fn edit_file<'w>(
     bytes: &[u8],
     name: &'w str,
     words: EditWords<'_>,
+    tally: &mut Tally,
 ) -> Result<Answer<'w>, Status>
     requires short { length bytes.now ≤ file_limit }
     requires said { (e : TheEdit) × SaysEdit words e × IsWordEdit e }
-    ensures { (e : TheEdit) (second : Loaded) → SaysEdit words.entry e → IsWordEdit e
+    ensures meant { (e : TheEdit) (second : Loaded) → SaysEdit words.entry e → IsWordEdit e
         → Follows answer_of result (order_made_of (command (edits_file name.now e)) bytes.now second) }
+    ensures works { (second : Loaded) → ReadsOne (over bytes.now second) tally.old tally.new }
 {
     let parts = open(alloc, 1, bytes, &[MEMBER_FILE])?;
     if parts.head().mine.len() == 0 {
         return Err(Status::Member(MemberFault::Nobody));
     }
-    let replica = replica_of(alloc, 1, parts)?;
+    let replica = replica_of(alloc, 1, parts, tally)?;
     let given = words.decode(alloc)?;
-    let made = replica.edit(alloc, &words.edit(&given));
+    let made = replica.edit(alloc, &words.edit(&given), tally);
     made_answer(alloc, name, made)
 }

@@ -1,7 +1,9 @@
 //! The file that a command reads: taken apart, found to be of a kind that the command takes, and built up to what it holds.
 
-ghost use Rattle.std.specs.Prelude.{◌≡◌, ◌≢◌, ◌≤◌, List, IfOk, length};
+ghost use Rattle.std.specs.Prelude.{◌≡◌, ◌≢◌, ◌≤◌, ◌*◌, List, IfOk, length};
 ghost use Rattle.model.specs.File.{File, Kind, bundle, kind_number, file_limit};
+ghost use Rattle.doc_store.specs.Documents.{DecodesSome};
+ghost use Rattle.member_replica.specs.Work.{operations_in};
 ghost use Rattle.outline_cmd.specs.Meaning.{exactly, scanned, opened};
 ghost use Rattle.outline_cmd.specs.Opened.{IsScanned, AreKinds};
 ghost use Rattle.outline_cmd.specs.Outcome.{fitting, of_kind};
@@ -62,12 +64,14 @@ pub(crate) fn replica_of<'a>(
     alloc: Global,
     word: u32,
     parts: FileParts<'a>,
+    tally: &mut Tally,
 ) -> Result<Replica<'a>, Status>
     requires { parts.kind ≢ bundle }
     ensures told { Follows (λ r. tt) result (exactly (fitting word parts.entry)) }
     ensures is { IfOk result (λ r. r ≡ parts.entry) }
+    ensures tally { DecodesSome tally.old tally.new (2 * operations_in parts.entry.kept) }
 {
-    match Replica::build(alloc, parts, &mut Tally::new()) {
+    match Replica::build(alloc, parts, tally) {
         Ok(replica) => Ok(replica),
         Err(
             BuildFault::Unfit {

@@ -12,8 +12,9 @@ ghost use Rattle.outline_words.specs.Table.{Order, command as ordering, Spell};
 ghost use Rattle.outline_cmd.specs.Ending.{ending, refused};
 ghost use Rattle.outline_cmd.specs.Ledgers.{ShowsFile, ShowsLedger, KeepsLedgers, IsDone};
 ghost use Rattle.outline_cmd.specs.Meaning.{Loaded, Loads, exactly, input_bytes, roles, ordered, order_meaning};
-ghost use Rattle.outline_cmd.specs.Tasks.{Does, order_made_of};
+ghost use Rattle.outline_cmd.specs.Tasks.{Does, order_made_of, over};
 ghost use Rattle.outline_cmd.specs.Run.{AreLoads, Runs, given_by, outside_by};
+ghost use Rattle.outline_cmd.specs.Works.{OrderWorks};
 ghost use Rattle.outline_cmd.specs.Stages.{Follows, answer_of};
 ghost use Rattle.outline_cmd.specs.declared.status.Status.{Status as TheStatus};
 ghost use Rattle.outline_cmd.specs.declared.status.Status.TheVariants.{Done};
@@ -86,13 +87,17 @@ fn make<'w>(
     task: Task<'w>,
     bytes: &[u8],
     second: &Result<Vec<u8>, Status>,
+    tally: &mut Tally,
 ) -> Result<Answer<'w>, Status>
     requires given { (order : Order) × Does task order }
     requires short { length bytes.now ≤ file_limit }
     requires short_second { IfOk second.now (λ b. vec_len b ≤ file_limit) }
-    ensures { (order : Order) (load : Loaded) → Does task.entry order
+    ensures meant { (order : Order) (load : Loaded) → Does task.entry order
         → Follows (λ b. b.items) second.now (exactly (input_bytes (roles order).second load))
         → Follows answer_of result (order_made_of order bytes.now load) }
+    ensures works { (order : Order) (load : Loaded) → Does task.entry order
+        → Follows (λ b. b.items) second.now (exactly (input_bytes (roles order).second load))
+        → OrderWorks order (over bytes.now load) tally.old tally.new }
 {
     match task {
         Task::Found {
@@ -100,16 +105,16 @@ fn make<'w>(
             members,
             name,
         } => found(alloc, document, members, name),
-        Task::Edit { name, edit } => edit_file(alloc, bytes, name, edit),
+        Task::Edit { name, edit } => edit_file(alloc, bytes, name, edit, tally),
         Task::Ack { name } => ack_file(alloc, bytes, name),
-        Task::Show { .. } => show_file(alloc, bytes),
+        Task::Show { .. } => show_file(alloc, bytes, tally),
         Task::Items { .. } => items(alloc, bytes),
         Task::Bundle {
             vector,
             new_name,
             ..
         } => bundle_file(alloc, bytes, &vector, new_name),
-        Task::Deliver { name, .. } => deliver_file(alloc, bytes, second, name),
+        Task::Deliver { name, .. } => deliver_file(alloc, bytes, second, name, tally),
     }
 }
 
@@ -118,19 +123,20 @@ fn answer<'w, K: Keeper>(
     alloc: Global,
     keeper: &mut K,
     task: Task<'w>,
+    tally: &mut Tally,
 ) -> Result<Answer<'w>, Status>
     requires { (order : Order) × Does task order }
     ensures meant { let seen = seen_by K.files K.load_faults K.store_faults K.failed in
         (order : Order) → Does task.entry order
         → (loads : Loads) × AreLoads (seen keeper.old) (seen keeper.new) (roles order) loads
-        × Follows answer_of result (order_meaning loads order) }
+        × Follows answer_of result (order_meaning loads order) × OrderWorks order loads tally.old tally.new }
     ensures loads { OnlyLoaded K.files K.load_faults K.store_faults keeper.old keeper.new }
 {
     let new_name = task.new_name();
     let bytes = load_input(alloc, keeper, task.input())?;
     // What is wrong with the second file is told behind what is wrong with the first.
     let second = load_input(alloc, keeper, task.second());
-    let answer = make(alloc, task, &bytes, &second)?;
+    let answer = make(alloc, task, &bytes, &second, tally)?;
     check_unused(keeper, new_name)?;
     check_size(&answer)?;
     Ok(answer)
@@ -155,7 +161,7 @@ fn read_task(alloc: Global, words: &Words) -> Result<Task<'_>, Status>
 }
 
 /// Does all that the program does: the command that the words give, over the keeper's files, its file stored and its
-/// text printed to `out`. It takes any words, and counts no work.
+/// text printed to `out`. It takes any words. Counts the operations that it decodes and the moves that it does.
 pub fn run<K: Keeper, S: Sink>(
     alloc: Global,
     words: &Words,
@@ -182,14 +188,19 @@ pub fn run<K: Keeper, S: Sink>(
         → K.files keeper.old ≡ Some files → K.files keeper.new ≡ Some now → AllStand (file_at files) ledgers
         → ordered 0 words.now (Ok (ordering c)) → IsDone result → KeepsLedgers files now ledgers c }
     // Words that are refused are refused before anything is loaded.
-    ensures unread { (refusal : TheStatus) → ordered 0 words.now (Err refusal) → keeper.new ≡ keeper.old }
-    ensures tally { tally.new ≡ tally.old }
+    ensures unread { (refusal : TheStatus) → ordered 0 words.now (Err refusal)
+        → (keeper.new ≡ keeper.old) × (tally.new ≡ tally.old) }
+    // What is counted is bounded by the files that are read.
+    ensures works { let seen = seen_by K.files K.load_faults K.store_faults K.failed in
+        (order : Order) → ordered 0 words.now (Ok order)
+        → (loads : Loads) × AreLoads (seen keeper.old) (seen keeper.new) (roles order) loads
+        × OrderWorks order loads tally.old tally.new }
 {
     let task = match read_task(alloc, words) {
         Ok(task) => task,
         Err(status) => return status,
     };
-    match answer(alloc, keeper, task) {
+    match answer(alloc, keeper, task, tally) {
         Ok(answer) => finish(keeper, out, &answer),
         Err(status) => status,
     }

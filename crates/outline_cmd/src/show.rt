@@ -6,12 +6,14 @@ ghost use Rattle.model.specs.File.{file_limit};
 ghost use Rattle.outline_words.specs.Table.{command};
 ghost use Rattle.outline_cmd.specs.Meaning.{Loaded};
 ghost use Rattle.outline_cmd.specs.Stages.{answer_of, Follows};
-ghost use Rattle.outline_cmd.specs.Tasks.{order_made_of};
+ghost use Rattle.outline_cmd.specs.Tasks.{order_made_of, over};
+ghost use Rattle.outline_cmd.specs.Works.{ReadsOne};
 
 use crate::answer::Answer;
 use crate::opened::{open, replica_of};
 use crate::status::Status;
 use outline_show::show_text;
+use outside::Tally;
 use replica::{MEMBER_FILE, SNAPSHOT};
 use std::alloc::Global;
 
@@ -19,14 +21,19 @@ use std::alloc::Global;
 const BASED_FILES: [u8; 2] = [MEMBER_FILE, SNAPSHOT];
 
 /// The answer of `show` over the bytes of a file.
-pub(crate) fn show_file<'w>(alloc: Global, bytes: &[u8]) -> Result<Answer<'w>, Status>
+pub(crate) fn show_file<'w>(
+    alloc: Global,
+    bytes: &[u8],
+    tally: &mut Tally,
+) -> Result<Answer<'w>, Status>
     requires { length bytes.now ≤ file_limit }
-    ensures { (name : List ℕ) (second : Loaded)
+    ensures meant { (name : List ℕ) (second : Loaded)
         → Follows answer_of result (order_made_of (command (shows name)) bytes.now second) }
+    ensures works { (second : Loaded) → ReadsOne (over bytes.now second) tally.old tally.new }
 {
     let parts = open(alloc, 1, bytes, &BASED_FILES)?;
-    let replica = replica_of(alloc, 1, parts)?;
-    let view = replica.doc().view()?;
+    let replica = replica_of(alloc, 1, parts, tally)?;
+    let view = replica.into_doc(tally)?.view()?;
     let text = show_text(alloc, &view)?;
     Ok(Answer { text, store: None })
 }

@@ -14,7 +14,7 @@ returns-in_err-bytes-clause-meant g c = λ order does.
     let seen = seen_by g.K.Keeper.files g.K.Keeper.load_faults g.K.Keeper.store_faults g.K.Keeper.failed in
     let p = err_from_is_err_and c.from_residual.result c.from_residual.ensures.1 in
     let (load, loads, follows) = c.in_err-bytes.ensures.loaded in
-    rw (p.1, p.2) (input_refused (seen c.args.keeper.now) (seen c.load_input.new.keeper) order (option_map named_of c.input.result) load c.in_err-bytes.field-0.0 (c.input.ensures order does) loads follows)
+    rw (p.1, p.2) (input_refused (seen c.args.keeper.now) (seen c.load_input.new.keeper) order c.args.tally.now (option_map named_of c.input.result) load c.in_err-bytes.field-0.0 (c.input.ensures order does) loads follows)
 
 pub returns-in_err-answer-clause-meant : goal.returns-in_err-answer-clause-meant
 returns-in_err-answer-clause-meant g c = λ order does.
@@ -28,8 +28,8 @@ returns-in_err-answer-clause-meant g c = λ order does.
     c.load_input.ensures.loads.same_files c.load_input.ensures.loads.later c.in_ok-bytes.ensures.same_failed loads2 follows2
     c.load_input-second.ensures.loads.same_files c.load_input-second.ensures.loads.later c.load_input-second.ensures.same_failed in
     let seconds = subst (λ (n : Option Named). Follows (λ b. b.items) c.load_input-second.result (exactly (input_bytes n load2))) (c.second.ensures order does) follows2 in
-    rw (p.1, p.2) (make_refused (seen c.args.keeper.now) (seen c.load_input-second.new.keeper) order load2 c.in_ok-bytes.bytes.items c.in_err-answer.field-0.0 (does_taken c.args.task order does) are
-    (rw c.deref.ensures.value at (c.in_err-answer.ensures order load2 does seconds)))
+    rw (p.1, p.2) (make_refused (seen c.args.keeper.now) (seen c.load_input-second.new.keeper) order c.args.tally.now c.make.new.tally load2 c.in_ok-bytes.bytes.items c.in_err-answer.field-0.0 (does_taken c.args.task order does) are
+    (rw c.deref.ensures.value at (c.in_err-answer.ensures.meant order load2 does seconds)) (rw c.deref.ensures.value at (c.in_err-answer.ensures.works order load2 does seconds)))
 
 pub returns-in_err-check_unused-clause-meant : goal.returns-in_err-check_unused-clause-meant
 returns-in_err-check_unused-clause-meant g c = λ order does.
@@ -44,9 +44,9 @@ returns-in_err-check_unused-clause-meant g c = λ order does.
     c.load_input-second.ensures.loads.same_files c.load_input-second.ensures.loads.later c.load_input-second.ensures.same_failed in
     let seconds = subst (λ (n : Option Named). Follows (λ b. b.items) c.load_input-second.result (exactly (input_bytes n load2))) (c.second.ensures order does) follows2 in
     let (load3, loads3, follows3) = c.in_err-check_unused.ensures.loaded in
-    rw (p.1, p.2) (made_ends (seen c.args.keeper.now) (seen c.load_input-second.new.keeper) (seen c.check_unused.new.keeper) order (option_map named_of c.new_name-new_name.result) load2 load3 c.in_ok-bytes.bytes.items
+    rw (p.1, p.2) (made_ends (seen c.args.keeper.now) (seen c.load_input-second.new.keeper) (seen c.check_unused.new.keeper) order c.args.tally.now c.make.new.tally (option_map named_of c.new_name-new_name.result) load2 load3 c.in_ok-bytes.bytes.items
     (answer_of c.in_ok-answer.answer) (Err c.in_err-check_unused.field-0.0) (c.new_name-new_name.ensures order does) (does_taken c.args.task order does) are
-    (rw c.deref.ensures.value at (c.in_ok-answer.ensures order load2 does seconds)) loads3
+    (rw c.deref.ensures.value at (c.in_ok-answer.ensures.meant order load2 does seconds)) (rw c.deref.ensures.value at (c.in_ok-answer.ensures.works order load2 does seconds)) loads3
     (refuses_first (exactly (unused (option_map named_of c.new_name-new_name.result) load3)) _ c.in_err-check_unused.field-0.0 follows3))
 
 pub returns-in_err-check_size-clause-meant : goal.returns-in_err-check_size-clause-meant
@@ -62,9 +62,9 @@ returns-in_err-check_size-clause-meant g c = λ order does.
     c.load_input-second.ensures.loads.same_files c.load_input-second.ensures.loads.later c.load_input-second.ensures.same_failed in
     let seconds = subst (λ (n : Option Named). Follows (λ b. b.items) c.load_input-second.result (exactly (input_bytes n load2))) (c.second.ensures order does) follows2 in
     let (load3, loads3, follows3) = c.in_ok-check_unused.ensures.loaded in
-    rw (p.1, p.2) (made_ends (seen c.args.keeper.now) (seen c.load_input-second.new.keeper) (seen c.check_unused.new.keeper) order (option_map named_of c.new_name-new_name.result) load2 load3 c.in_ok-bytes.bytes.items
+    rw (p.1, p.2) (made_ends (seen c.args.keeper.now) (seen c.load_input-second.new.keeper) (seen c.check_unused.new.keeper) order c.args.tally.now c.make.new.tally (option_map named_of c.new_name-new_name.result) load2 load3 c.in_ok-bytes.bytes.items
     (answer_of c.in_ok-answer.answer) (Err c.in_err-check_size.field-0.0) (c.new_name-new_name.ensures order does) (does_taken c.args.task order does) are
-    (rw c.deref.ensures.value at (c.in_ok-answer.ensures order load2 does seconds)) loads3
+    (rw c.deref.ensures.value at (c.in_ok-answer.ensures.meant order load2 does seconds)) (rw c.deref.ensures.value at (c.in_ok-answer.ensures.works order load2 does seconds)) loads3
     (refuses_next (exactly (unused (option_map named_of c.new_name-new_name.result) load3)) _ c.in_ok-check_unused.field-0 c.in_err-check_size.field-0.0 follows3 c.in_err-check_size.ensures))
 
 pub returns-clause-meant : goal.returns-clause-meant
@@ -79,7 +79,7 @@ returns-clause-meant g c = λ order does.
     c.load_input-second.ensures.loads.same_files c.load_input-second.ensures.loads.later c.load_input-second.ensures.same_failed in
     let seconds = subst (λ (n : Option Named). Follows (λ b. b.items) c.load_input-second.result (exactly (input_bytes n load2))) (c.second.ensures order does) follows2 in
     let (load3, loads3, follows3) = c.in_ok-check_unused.ensures.loaded in
-    made_ends (seen c.args.keeper.now) (seen c.load_input-second.new.keeper) (seen c.check_unused.new.keeper) order (option_map named_of c.new_name-new_name.result) load2 load3 c.in_ok-bytes.bytes.items
+    made_ends (seen c.args.keeper.now) (seen c.load_input-second.new.keeper) (seen c.check_unused.new.keeper) order c.args.tally.now c.make.new.tally (option_map named_of c.new_name-new_name.result) load2 load3 c.in_ok-bytes.bytes.items
     (answer_of c.in_ok-answer.answer) (Ok c.in_ok-answer.answer) (c.new_name-new_name.ensures order does) (does_taken c.args.task order does) are
-    (rw c.deref.ensures.value at (c.in_ok-answer.ensures order load2 does seconds)) loads3
+    (rw c.deref.ensures.value at (c.in_ok-answer.ensures.meant order load2 does seconds)) (rw c.deref.ensures.value at (c.in_ok-answer.ensures.works order load2 does seconds)) loads3
     (Ok c.in_ok-check_unused.field-0, follows3, c.in_ok-check_size.ensures)
