@@ -273,13 +273,36 @@ const TEXT_AND_LIST: &[(&[&str], &str)] = &[
     ),
 ];
 
-/// Does these over the file of one key. Gives the text of the first that isn't done, or prints another text.
+/// The two members' files: what one changed is delivered to the other, twice, acknowledged, and answered.
+const EXCHANGE: &[(&[&str], &str)] = &[
+    (&["bundle", "a", "0,0", "x"], "changes 1\n"),
+    (
+        &["deliver", "second", "x"],
+        "accepted 1 known 0 same 0 waiting 0\n",
+    ),
+    (&["show", "second"], ONE_KEY_TEXT),
+    (
+        &["deliver", "second", "x"],
+        "accepted 0 known 1 same 0 waiting 0\n",
+    ),
+    (&["ack", "second"], "made 1 1 2\n"),
+    (&["put", "second", "root", "b", "1"], "made 1 2 3\n"),
+    (&["bundle", "second", "1,0", "y"], "changes 2\n"),
+    (
+        &["deliver", "a", "y"],
+        "accepted 2 known 0 same 0 waiting 0\n",
+    ),
+    (&["show", "a"], "node 0 root\nkey \"a\" true\nkey \"b\" 1\n"),
+];
+
+/// Does these over the file of one key, beside that of member 1 alone. Gives the text of the first that isn't done, or prints another text.
 fn first_undone(
     alloc: Global,
     steps: &[(&[&str], &'static str)],
 ) -> Result<Option<&'static str>, Fail> {
     let mut keeper = MemKeeper::new(alloc, &[], &[])?;
     keeper.put_file("a", ONE_KEY)?;
+    keeper.put_file("second", SECOND)?;
     for &(line, text) in steps {
         let step = Step {
             line,
@@ -304,5 +327,11 @@ fn takes_the_ends(rt: HostRuntime) -> Result<(), Fail> {
 #[test]
 fn edits_a_text_and_a_list(rt: HostRuntime) -> Result<(), Fail> {
     assert_eq!(rt; first_undone(rt.alloc(), TEXT_AND_LIST)?, None);
+    Ok(())
+}
+
+#[test]
+fn members_exchange(rt: HostRuntime) -> Result<(), Fail> {
+    assert_eq!(rt; first_undone(rt.alloc(), EXCHANGE)?, None);
     Ok(())
 }
