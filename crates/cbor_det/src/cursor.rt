@@ -68,6 +68,7 @@ impl<'a> Cursor<'a> {
     }
 
     /// Goes past what was read from the place, or says where the fault is.
+    #[inline(always)]
     fn past<T>(&mut self, read: Result<(T, &'a [u8]), Stop>) -> Result<T, CborFault>
         requires { Inside read (unread self.old).rest }
         ensures ok { IfOk read.entry (λ x. (result ≡ Ok x.0) × ((unread self.new).rest ≡ x.1.now)
@@ -85,6 +86,7 @@ impl<'a> Cursor<'a> {
     }
 
     /// A number of major type 0.
+    #[inline(always)]
     pub fn uint(&mut self) -> Result<u64, CborFault>
         // Where an item stands, its value is read, or it is of another type; likewise below.
         ensures exact { Reads (λ n. n) (unread self.old) (unread self.new) result (argument_at 0) }
@@ -105,6 +107,7 @@ impl<'a> Cursor<'a> {
     }
 
     /// A number of major type 0 or 1: from -2^64 to 2^64 - 1.
+    #[inline(always)]
     pub fn int(&mut self) -> Result<i128, CborFault>
         ensures exact { Reads (λ n. n) (unread self.old) (unread self.new) result int_at }
         ensures item { ReadsItem (λ n. n) (unread self.old) (unread self.new) result as_number }
@@ -121,6 +124,7 @@ impl<'a> Cursor<'a> {
     }
 
     /// A byte string.
+    #[inline(always)]
     pub fn bytes(&mut self) -> Result<&'a [u8], CborFault>
         ensures exact { Reads (λ b. b.now) (unread self.old) (unread self.new) result bytes_at }
         ensures item { ReadsItem (λ b. b.now) (unread self.old) (unread self.new) result as_bytes }
@@ -137,6 +141,7 @@ impl<'a> Cursor<'a> {
     }
 
     /// A text.
+    #[inline(always)]
     pub fn text(&mut self) -> Result<&'a str, CborFault>
         ensures exact { Reads (λ t. t.now) (unread self.old) (unread self.new) result text_at }
         ensures item { ReadsItem (λ t. t.now) (unread self.old) (unread self.new) result as_text }
@@ -153,6 +158,7 @@ impl<'a> Cursor<'a> {
     }
 
     /// The head of an array: how many items follow it.
+    #[inline(always)]
     pub fn array(&mut self) -> Result<u64, CborFault>
         ensures exact { Reads (λ n. n) (unread self.old) (unread self.new) result (argument_at 4) }
         ensures item { ReadsItem (λ n. n) (unread self.old) (unread self.new) result as_list }
@@ -199,6 +205,7 @@ impl<'a> Cursor<'a> {
     }
 
     /// False, true or null.
+    #[inline(always)]
     pub fn simple(&mut self) -> Result<Simple, CborFault>
         ensures exact { Reads (λ s. s) (unread self.old) (unread self.new) result simple_at }
         ensures item { ReadsItem (λ s. s) (unread self.old) (unread self.new) result as_simple }

@@ -32,7 +32,7 @@ const MAX_VALUE_LEN: usize = 65_536;
 const MAX_RUN: u64 = 4_096;
 
 /// A number, where one stands.
-#[inline]
+#[inline(always)]
 pub(crate) fn read_number(cursor: &mut Cursor<'_>) -> Option<u64>
     ensures item { ReadsField (λ n. n) unsigned (λ n. Unit {0}) (unread cursor.old) (unread cursor.new) result }
     ensures took { IfSome result (λ n.
@@ -47,7 +47,7 @@ pub(crate) fn read_number(cursor: &mut Cursor<'_>) -> Option<u64>
 }
 
 /// How many items the row has that stands there.
-#[inline]
+#[inline(always)]
 pub(crate) fn read_row(cursor: &mut Cursor<'_>) -> Option<u64>
     ensures item { ReadsRow (unread cursor.old) (unread cursor.new) result }
     ensures took { IfSome result (λ n. Took (head 4 n) (unread cursor.old) (unread cursor.new)) }
@@ -60,7 +60,7 @@ pub(crate) fn read_row(cursor: &mut Cursor<'_>) -> Option<u64>
 }
 
 /// Two numbers that stand first in a row.
-#[inline]
+#[inline(always)]
 fn read_two_numbers(cursor: &mut Cursor<'_>) -> Option<(u64, u64)>
     ensures item { ReadsFields 2 (λ p. p) (λ p. unsigned p.0 ∷ unsigned p.1 ∷ []) (λ p. Unit {0} × Unit {0}) (unread cursor.old) (unread cursor.new) result }
     ensures took { IfSome result (λ p. Took (spell (unsigned p.0) ++ spell (unsigned p.1))
@@ -73,7 +73,7 @@ fn read_two_numbers(cursor: &mut Cursor<'_>) -> Option<(u64, u64)>
 }
 
 /// Three numbers that stand first in a row.
-#[inline]
+#[inline(always)]
 pub(crate) fn read_numbers(cursor: &mut Cursor<'_>) -> Option<(u64, (u64, u64))>
     ensures item { ReadsFields 3 (λ p. p) (λ p. unsigned p.0 ∷ unsigned p.1.0 ∷ unsigned p.1.1 ∷ []) (λ p. Unit {0} × (Unit {0} × Unit {0})) (unread cursor.old) (unread cursor.new) result }
     ensures took { IfSome result (λ p.
@@ -87,7 +87,7 @@ pub(crate) fn read_numbers(cursor: &mut Cursor<'_>) -> Option<(u64, (u64, u64))>
 }
 
 /// A row of three numbers, where one stands.
-#[inline]
+#[inline(always)]
 fn read_three(cursor: &mut Cursor<'_>) -> Option<(u64, (u64, u64))>
     ensures item { ReadsField (λ p. p) (λ p. row (unsigned p.0 ∷ unsigned p.1.0 ∷ unsigned p.1.1 ∷ [])) (λ p. Unit {0} × (Unit {0} × Unit {0})) (unread cursor.old) (unread cursor.new) result }
     ensures took { IfSome result (λ p.
@@ -103,6 +103,7 @@ fn read_three(cursor: &mut Cursor<'_>) -> Option<(u64, (u64, u64))>
 }
 
 /// An id of a document of so many members, where one stands. Else the cursor stays.
+#[inline(always)]
 pub fn read_id(cursor: &mut Cursor<'_>, n: u8) -> Option<OpId>
     ensures item { ReadsField (λ id. id) id_item (IsOpId n) (unread cursor.old) (unread cursor.new) result }
     // An id that is read is spelled so, and one that is spelled here is read; likewise below.
@@ -132,6 +133,7 @@ pub fn read_id(cursor: &mut Cursor<'_>, n: u8) -> Option<OpId>
 }
 
 /// A side, where one stands. Else the cursor stays.
+#[inline(always)]
 pub fn read_side(cursor: &mut Cursor<'_>) -> Option<Side>
     ensures item { ReadsField (λ s. s) side_item (λ s. Unit {0}) (unread cursor.old) (unread cursor.new) result }
     ensures found { IfSome result (λ s.
@@ -154,6 +156,7 @@ pub fn read_side(cursor: &mut Cursor<'_>) -> Option<Side>
 }
 
 /// An id and a side that stand first in a row.
+#[inline(always)]
 fn read_id_and_side(cursor: &mut Cursor<'_>, n: u8) -> Option<(OpId, Side)>
     ensures { ReadsFields 2 (λ p. p) (λ p. id_item p.0 ∷ side_item p.1 ∷ []) (λ p. IsOpId n p.0 × Unit {0}) (unread cursor.old) (unread cursor.new) result }
 {
@@ -163,6 +166,7 @@ fn read_id_and_side(cursor: &mut Cursor<'_>, n: u8) -> Option<(OpId, Side)>
 }
 
 /// Where something hangs, by the id and the side that stand first in a row.
+#[inline(always)]
 pub(crate) fn read_anchor(cursor: &mut Cursor<'_>, n: u8) -> Option<(OpId, Side)>
     ensures { ReadsFields 2 anchor_of anchor_items (IsAnchor n) (unread cursor.old) (unread cursor.new) result }
 {
@@ -174,6 +178,7 @@ pub(crate) fn read_anchor(cursor: &mut Cursor<'_>, n: u8) -> Option<(OpId, Side)
 }
 
 /// Two ids that stand first in a row.
+#[inline(always)]
 pub(crate) fn read_ids(cursor: &mut Cursor<'_>, n: u8) -> Option<(OpId, OpId)>
     ensures { ReadsFields 2 (λ p. p) two_ids (AreTwoIds n) (unread cursor.old) (unread cursor.new) result }
 {
@@ -183,6 +188,7 @@ pub(crate) fn read_ids(cursor: &mut Cursor<'_>, n: u8) -> Option<(OpId, OpId)>
 }
 
 /// An id, and where something hangs, that stand first in a row.
+#[inline(always)]
 pub(crate) fn read_id_and_anchor(cursor: &mut Cursor<'_>, n: u8) -> Option<(OpId, (OpId, Side))>
     ensures { ReadsFields 3 id_anchor_of id_and_anchor (AreIdAndAnchor n) (unread cursor.old) (unread cursor.new) result }
 {
@@ -192,6 +198,7 @@ pub(crate) fn read_id_and_anchor(cursor: &mut Cursor<'_>, n: u8) -> Option<(OpId
 }
 
 /// A child that can be moved, where one stands.
+#[inline(always)]
 pub(crate) fn read_child(cursor: &mut Cursor<'_>, n: u8) -> Option<OpId>
     ensures item { ReadsField (λ id. id) id_item (IsChild n) (unread cursor.old) (unread cursor.new) result }
     ensures found { IfSome result (λ id. IsChild n id
@@ -205,6 +212,7 @@ pub(crate) fn read_child(cursor: &mut Cursor<'_>, n: u8) -> Option<OpId>
 }
 
 /// An id and a number that stand first in a row.
+#[inline(always)]
 fn read_id_and_number(cursor: &mut Cursor<'_>, n: u8) -> Option<(OpId, u64)>
     ensures { ReadsFields 2 (λ p. p) (λ p. id_item p.0 ∷ unsigned p.1 ∷ []) (λ p. IsOpId n p.0 × Unit {0}) (unread cursor.old) (unread cursor.new) result }
 {
@@ -214,6 +222,7 @@ fn read_id_and_number(cursor: &mut Cursor<'_>, n: u8) -> Option<(OpId, u64)>
 }
 
 /// A row of ids of one change, by the first and how many they are.
+#[inline(always)]
 pub(crate) fn read_run(cursor: &mut Cursor<'_>, n: u8) -> Option<(OpId, u32)>
     ensures { ReadsFields 2 (λ p. p) id_and_count (AreRun n) (unread cursor.old) (unread cursor.new) result }
 {
@@ -225,6 +234,7 @@ pub(crate) fn read_run(cursor: &mut Cursor<'_>, n: u8) -> Option<(OpId, u32)>
 }
 
 /// A key, where one stands.
+#[inline(always)]
 pub(crate) fn read_key<'a>(cursor: &mut Cursor<'a>) -> Option<&'a str>
     ensures item { ReadsField (λ t. t.now) Item.text IsKey (unread cursor.old) (unread cursor.new) result }
     ensures found { IfSome result (λ t. IsKey t.now
@@ -237,6 +247,7 @@ pub(crate) fn read_key<'a>(cursor: &mut Cursor<'a>) -> Option<&'a str>
 }
 
 /// A value, where one stands. Else the cursor stays.
+#[inline(always)]
 pub fn read_value<'a>(cursor: &mut Cursor<'a>) -> Option<Value<'a>>
     ensures item { ReadsField value_of value_item IsValue (unread cursor.old) (unread cursor.new) result }
     ensures found { IfSome result (λ v. IsValue (value_of v)
@@ -257,6 +268,7 @@ pub fn read_value<'a>(cursor: &mut Cursor<'a>) -> Option<Value<'a>>
 }
 
 /// Whether a text or bytes are short enough for a value.
+#[inline(always)]
 fn is_value(value: Value<'_>) -> bool
     ensures { IsTrue result ↔ IsValue (value_of value.entry) }
 {
@@ -268,6 +280,7 @@ fn is_value(value: Value<'_>) -> bool
 }
 
 /// Whether a text is short enough for a value.
+#[inline(always)]
 fn is_short_text(text: &str) -> bool
     ensures { IsTrue result ↔ (IsUtf8 text.now × (length text.now ≤ 65536)) }
 {
@@ -275,6 +288,7 @@ fn is_short_text(text: &str) -> bool
 }
 
 /// Whether bytes are few enough for a value.
+#[inline(always)]
 fn is_short(bytes: &[u8]) -> bool
     ensures { IsTrue result ↔ (IsBytes bytes.now × (length bytes.now ≤ 65536)) }
 {
@@ -282,6 +296,7 @@ fn is_short(bytes: &[u8]) -> bool
 }
 
 /// What an item says as a value, whatever its length.
+#[inline(always)]
 fn read_said<'a>(cursor: &mut Cursor<'a>) -> Option<Value<'a>>
     ensures item { ReadsField value_of value_item IsSaid (unread cursor.old) (unread cursor.new) result }
     ensures took { IfSome result (λ v.
@@ -307,6 +322,7 @@ fn read_said<'a>(cursor: &mut Cursor<'a>) -> Option<Value<'a>>
 }
 
 /// The value of false, true or null.
+#[inline(always)]
 fn of_simple<'a>(simple: Simple) -> Value<'a>
     ensures { value_item (value_of result) ≡ Item.simple simple }
 {
@@ -318,6 +334,7 @@ fn of_simple<'a>(simple: Simple) -> Value<'a>
 }
 
 /// The value of bytes.
+#[inline(always)]
 fn of_bytes<'a>(bytes: &'a [u8]) -> Value<'a>
     ensures value { value_of result ≡ model.bytes bytes.now }
     ensures fits { IsBytes bytes.now }
@@ -326,6 +343,7 @@ fn of_bytes<'a>(bytes: &'a [u8]) -> Value<'a>
 }
 
 /// The value of a number, if it has 64 bits with its sign.
+#[inline(always)]
 fn of_number<'a>(number: i128) -> Option<Value<'a>>
     ensures some { IfSome result (λ v. value_of v ≡ integer number) }
     ensures none { result ≡ None → IsValue (integer number) → ⊥ }
@@ -337,6 +355,7 @@ fn of_number<'a>(number: i128) -> Option<Value<'a>>
 }
 
 /// A key and a value that stand first in a row.
+#[inline(always)]
 pub(crate) fn read_key_and_value<'a>(cursor: &mut Cursor<'a>) -> Option<(&'a str, Value<'a>)>
     ensures { ReadsFields 2 key_value_of key_and_value AreKeyAndValue (unread cursor.old) (unread cursor.new) result }
 {
@@ -346,6 +365,7 @@ pub(crate) fn read_key_and_value<'a>(cursor: &mut Cursor<'a>) -> Option<(&'a str
 }
 
 /// Characters to type, where they stand.
+#[inline(always)]
 pub(crate) fn read_typed<'a>(cursor: &mut Cursor<'a>) -> Option<&'a str>
     ensures item { ReadsField (λ t. chars t.now) (λ cs. Item.text (utf8 cs)) IsTyped (unread cursor.old) (unread cursor.new) result }
     ensures found { IfSome result (λ t. IsTyped (chars t.now)
@@ -362,6 +382,7 @@ pub(crate) fn read_typed<'a>(cursor: &mut Cursor<'a>) -> Option<&'a str>
 }
 
 /// Whether a text has some characters, and not too many.
+#[inline(always)]
 fn is_typed(text: &str) -> bool
     ensures { IsTrue result ↔ IsTyped (chars text.now) }
 {

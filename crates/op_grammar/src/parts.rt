@@ -25,6 +25,7 @@ pub(crate) struct Parts<'a> {
 }
 
 /// The parts of a change, where an item has its shape.
+#[inline(always)]
 pub(crate) fn read_parts<'a>(cursor: &mut Cursor<'a>) -> Option<Parts<'a>>
     ensures item { ReadsParts (unread cursor.old) result }
     // Parts that are read are those of the item that is spelled here; likewise below.
@@ -39,6 +40,7 @@ pub(crate) fn read_parts<'a>(cursor: &mut Cursor<'a>) -> Option<Parts<'a>>
 }
 
 /// The parts of a change, where they are the fields of a row.
+#[inline(always)]
 fn read_seven<'a>(cursor: &mut Cursor<'a>) -> Option<Parts<'a>>
     ensures item { ReadsSeven (unread cursor.old) result }
     ensures found { IfSome result (FoundSeven (unread cursor.old) (unread cursor.new)) }
@@ -60,6 +62,7 @@ fn read_seven<'a>(cursor: &mut Cursor<'a>) -> Option<Parts<'a>>
 }
 
 /// Goes past a row of numbers, where one stands, and tells how many they are.
+#[inline(always)]
 fn skip_row(cursor: &mut Cursor<'_>) -> Option<u64>
     ensures item { SkipsRow (unread cursor.old) (unread cursor.new) result }
     ensures found { IfSome result (λ _. FoundRow (unread cursor.old) (unread cursor.new)) }
@@ -70,6 +73,7 @@ fn skip_row(cursor: &mut Cursor<'_>) -> Option<u64>
 }
 
 /// Goes past so many numbers, where they stand.
+#[inline(always)]
 fn skip_numbers(cursor: &mut Cursor<'_>, count: u64) -> Option<u64>
     ensures item { SkipsNumbers count (unread cursor.old) (unread cursor.new) result }
     ensures found { IfSome result (λ _. FoundNumbers count (unread cursor.old) (unread cursor.new)) }
@@ -82,6 +86,7 @@ fn skip_numbers(cursor: &mut Cursor<'_>, count: u64) -> Option<u64>
 }
 
 /// The last three parts: how many operations there are, how many ids they take, and their spellings.
+#[inline(always)]
 fn read_rest<'a>(cursor: &mut Cursor<'a>) -> Option<(u64, (u64, &'a [u8]))>
     ensures item { ReadsFields 3 rest_of count_and_rest (λ p. Unit {0} × (Unit {0} × Unit {0})) (unread cursor.old) (unread cursor.new) result }
     ensures fits { IfSome result (λ p. (p.0 < 2 ^ 64) × (p.1.0 < 2 ^ 64) × (length p.1.1.now < 2 ^ 64)) }
@@ -92,6 +97,7 @@ fn read_rest<'a>(cursor: &mut Cursor<'a>) -> Option<(u64, (u64, &'a [u8]))>
     Some((count, rest))
 }
 
+#[inline(always)]
 fn read_width_and_body<'a>(cursor: &mut Cursor<'a>) -> Option<(u64, &'a [u8])>
     ensures item { ReadsFields 2 width_body_of width_and_body (λ p. Unit {0} × Unit {0}) (unread cursor.old) (unread cursor.new) result }
     ensures fits { IfSome result (λ p. (p.0 < 2 ^ 64) × (length p.1.now < 2 ^ 64)) }
@@ -103,6 +109,7 @@ fn read_width_and_body<'a>(cursor: &mut Cursor<'a>) -> Option<(u64, &'a [u8])>
 }
 
 /// A byte string, where one stands.
+#[inline(always)]
 fn read_bytes<'a>(cursor: &mut Cursor<'a>) -> Option<&'a [u8]>
     ensures item { ReadsField (λ b. b.now) bytes (λ _. Unit {0}) (unread cursor.old) (unread cursor.new) result }
     ensures took { IfSome result (λ b. Took (spell (bytes b.now)) (unread cursor.old) (unread cursor.new)) }
