@@ -1,11 +1,11 @@
 -- What is read off what is held.
 use Rattle.std.proofs.Common.{◌≡◌, ℕ, ◌<◌, List, length, map, replicate, Some, refl, sym, ap, ◌∙◌, ◌∷◌, [], zero, suc, ◌+◌, arith}
-use Rattle.std.specs.Prelude.{slice_get, slice_index}
+use Rattle.std.specs.Prelude.{slice_get, slice_index, slice_index_or}
 use Rattle.std.specs.List.{range_with_len}
 use Rattle.std.proofs.lemmas.List.FromFn.{length-map-range_with_len}
 use Rattle.std.proofs.lemmas.Option.{same_Some}
 use Rattle.std.proofs.lemmas.Simd.{map-map}
-use Rattle.model.specs.Base.{Base, MemberRow, base_of, member_row, members}
+use Rattle.model.specs.Base.{Base, MemberRow, base_of, member_row, members, time_of}
 use Rattle.model.specs.Change.{Change, IsChange}
 use Rattle.model.specs.Held.{held_behind, row_behind}
 use Rattle.op_grammar.specs.Changes.{head_of}
@@ -13,7 +13,9 @@ use Rattle.op_grammar.specs.declared.head.Head.{Head}
 use Rattle.stability.specs.Rows.{row_of, rows_in}
 use Rattle.stability.specs.declared.fronts.MemberRow as code
 use Rattle.stability.proofs.HeldLaws.{heads_make_rows}
+use Rattle.arrival_laws.proofs.SoundLaws.{name}
 use Rattle.holding.specs.Holds.{Holds}
+use Rattle.holding.specs.Times.{time_at}
 use Rattle.holding.specs.declared.holding.Holding.{Holding}
 use Rattle.holding.proofs.FirstLaws.{number_at, read_at}
 
@@ -47,6 +49,16 @@ known_read h n b kept c head known holds is same told =
     let member = ap (λ (x : Head). x.member) same in
     same_Some known (row_behind b kept c.member).known
     (sym told ∙ (λ i. slice_get (map (λ (r : MemberRow). r.known) (holds.rows i)) (member i)) ∙ read_at (λ (r : MemberRow). r.known) n (row_behind b kept) c.member is.member)
+
+-- there is a list of times for each member
+pub within_times : (h : Holding) (n : ℕ) (b : Base) (kept : List Change) (k : ℕ) → Holds h n b kept → k < n → k < length h.times
+within_times h n b kept k holds lt = omega (arith, lt, holds.timed)
+
+pub time_read : (h : Holding) (n : ℕ) (b : Base) (kept : List Change) (c : Change) (k cause time : ℕ) → Holds h n b kept → k < n → cause ≡ slice_index c.causes k
+    → time ≡ time_at (slice_index_or h.times k []) (slice_index (map (λ (r : MemberRow). r.count) h.fronts) k) cause → time ≡ time_of kept (name k (slice_index c.causes k))
+time_read h n b kept c k cause time holds lt is told =
+    told ∙ ap (λ last. time_at (slice_index_or h.times k []) last cause) (count_read h n b kept k (slice_index (map (λ (r : MemberRow). r.count) h.fronts) k) holds lt refl) ∙ holds.times (name k cause) lt
+    ∙ ap (λ q. time_of kept (name k q)) is
 
 pub counts_read : (h : Holding) (n : ℕ) (b : Base) (kept : List Change) → Holds h n b kept → map (λ (r : MemberRow). r.count) h.fronts ≡ map (λ m. (row_behind b kept m).count) (members n)
 counts_read h n b kept holds = ap (map (λ (r : MemberRow). r.count)) holds.rows ∙ map-map (λ (r : MemberRow). r.count) (row_behind b kept) (members n)

@@ -1,15 +1,14 @@
 -- What is held without changes, with one more, and what is unfit there.
-use Rattle.std.proofs.Common.{◌≡◌, ℕ, ◌≤◌, cond, List, [], ◌∷◌, ◌++◌, map, replicate, length, Option, Some, None, sym, ap, subst, ◌∙◌, append_assoc}
-use Rattle.std.specs.Prelude.{slice_get}
+use Rattle.std.proofs.Common.{◌≡◌, ℕ, ◌<◌, ◌≤◌, true, false, cond, List, [], ◌∷◌, ◌++◌, map, replicate, length, Option, Some, None, refl, sym, ap, subst, ◌∙◌, append_assoc}
+use Rattle.std.specs.Prelude.{nat_lt, slice_get, slice_index_or, slice_set}
+use Rattle.std.proofs.lemmas.List.{get_or-replicate, length-replicate, length-set}
 use Rattle.std.proofs.lemmas.List.Sorted.{length_permutation}
-use Rattle.std.specs.BTreeMap.{is_at}
 use Rattle.std.specs.List.{AllByRecursion}
-use Rattle.std.specs.Map.{lookup}
 use Rattle.std.specs.Option.{option_map, option_or}
 use Rattle.model.specs.Base.{Base, base_of}
-use Rattle.model.specs.Change.{Change, IsChange}
+use Rattle.model.specs.Change.{Change, IsChange, Name}
 use Rattle.model.specs.Held as model
-use Rattle.model.specs.Held.{Held, held_behind, refers_wrongly, unfit, wrong_references}
+use Rattle.model.specs.Held.{Held, held_behind, refers_wrongly, row_behind, unfit, wrong_references}
 use Rattle.model.specs.Ledger.{add}
 use Rattle.model.specs.State.{State, atoms, by_ids, change_atoms, empty_state}
 use Rattle.arrival_laws.proofs.AddLaws.{to_order}
@@ -27,7 +26,8 @@ use Rattle.replica.specs.FaultText.{misfit_of}
 use Rattle.replica.specs.declared.fault.Misfit.{Misfit}
 use Rattle.stability.specs.Rows.{row_of, taken}
 use Rattle.stability.proofs.HeldLaws.{added_makes_row}
-use Rattle.holding.specs.Holds.{Holds, MayJoin, name_cmp, time_in}
+use Rattle.holding.specs.Holds.{Holds, MayJoin}
+use Rattle.holding.specs.Times.{time_at}
 use Rattle.holding.specs.Misfits.{forgotten_causes, late_causes, late_times, missing_causes, of_head}
 use Rattle.holding.specs.declared.holding.Holding.{Holding}
 use Rattle.holding.proofs.FirstLaws.{first_of_two}
@@ -37,11 +37,17 @@ use Rattle.holding.proofs.PlacedLaws.{ComesNext, added_counted, added_in_order, 
 
 -- ---- no changes
 
-pub holds_none : (h : Holding) (n : ℕ) → n ≤ 32 → h.fronts ≡ map row_of (replicate n (silent n)) → h.times.entries ≡ [] → IsDocument (document_of h.document) empty_state [] → h.document.moves.log.moves ≡ [] → Holds h n (base_of n [] 0) []
+none_known : (n : ℕ) (times : List (List ℕ)) (last : ℕ) → times ≡ replicate n [] → (name : Name) → name.member < n → time_at (slice_index_or times name.member []) last name.number ≡ 0
+none_known n times last none name within =
+    let empty : slice_index_or times name.member [] ≡ [] = ap (λ (l : List (List ℕ)). slice_index_or l name.member []) none ∙ get_or-replicate n name.member [] in
+    ap (λ (l : List ℕ). time_at l last name.number) empty ∙ elim (nat_lt last name.number) as (λ t. cond t 0 0 ≡ 0) [ true ↦ refl | false ↦ refl ]
+
+pub holds_none : (h : Holding) (n : ℕ) → n ≤ 32 → h.fronts ≡ map row_of (replicate n (silent n)) → h.times ≡ replicate n [] → IsDocument (document_of h.document) empty_state [] → h.document.moves.log.moves ≡ [] → Holds h n (base_of n [] 0) []
 holds_none h n few rows none document undone = record {
   few = few;
   rows = rows ∙ silent_rows_are n;
-  times = λ name. ap (λ (entries : List ((ℕ × ℕ) × ℕ)). time_in entries name) none;
+  timed = ap (λ (times : List (List ℕ)). length times) none ∙ length-replicate n [];
+  times = λ name. none_known n h.times (row_behind (base_of n [] 0) [] name.member).count none name;
   document = document;
   undone = undone;
   in_order = to_order [] tt;
@@ -52,17 +58,19 @@ holds_none h n few rows none document undone = record {
 
 pub holds_added : (h now : Holding) (n : ℕ) (b : Base) (kept : List Change) (c : Change) (head : Head) → Holds h n b kept → MayJoin n b kept c → head ≡ head_of c
     → now.fronts ≡ taken h.fronts head → Joins (document_of h.document) (by_ids c.time c.member 0 c.operations) (document_of now.document) → now.document.moves.log ≡ h.document.moves.log
-    → ((q : ℕ × ℕ) → lookup (is_at (name_cmp q)) now.times.entries ≡ cond (is_at (name_cmp (head.member, head.number)) q) (Some head.time) (lookup (is_at (name_cmp q)) h.times.entries))
-    → Holds now n b (add kept c)
+    → now.times ≡ slice_set h.times head.member (slice_index_or h.times head.member [] ++ head.time ∷ []) → Holds now n b (add kept c)
 holds_added h now n b kept c head holds may same rows joins undone written =
     let next : ComesNext b kept c = record { in_order = holds.in_order; counted = holds.counted; next = may.next; later = may.later } in
     let below = below_in_turn b.state (atoms kept) (change_atoms c) may.comes.in_turn in
     let fresh = fresh_in_turn b.state (atoms kept) (change_atoms c) may.comes.in_turn in
+    let times : now.times ≡ slice_set h.times c.member (slice_index_or h.times c.member [] ++ c.time ∷ []) = written ∙ ap (λ (x : Head). slice_set h.times x.member (slice_index_or h.times x.member [] ++ x.time ∷ [])) same in
     record {
       few = holds.few;
       rows = rows ∙ (λ i. taken (holds.rows i) (same i)) ∙ sym (added_makes_row n b kept c holds.in_order may.later);
-      times = times_added b kept c h.times.entries now.times.entries next holds.times
-          (λ q. written q ∙ ap (λ (x : Head). cond (is_at (name_cmp (x.member, x.number)) q) (Some x.time) (lookup (is_at (name_cmp q)) h.times.entries)) same);
+      timed = ap (λ (times : List (List ℕ)). length times) times ∙ length-set h.times c.member (slice_index_or h.times c.member [] ++ c.time ∷ []) ∙ holds.timed;
+      times = λ name within.
+          ap (λ (l : List (List ℕ)). time_at (slice_index_or l name.member []) (row_behind b (add kept c) name.member).count name.number) times
+          ∙ times_added n b kept c h.times next may.is_change.member holds.timed holds.times name within;
       document = subst (IsDocument (document_of now.document) b.state) may.comes.placed (joins b.state (atoms kept) holds.document below fresh);
       undone = ap (λ (l : Log). l.moves) undone ∙ holds.undone;
       in_order = added_in_order b kept c next;

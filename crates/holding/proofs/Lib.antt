@@ -1,4 +1,5 @@
 pub mod CostLaws
+pub mod TimesLaws
 pub mod PlacedLaws
 pub mod FirstLaws
 pub mod OperationLaws

@@ -1,15 +1,10 @@
 -- A change that is put in its place: the rows, the numbers and the times.
 use Rattle.std.proofs.Common.{◌≡◌, ℕ, ◌+◌, ◌<◌, ◌≤◌, true, false, cond, eqb, ◌&&◌, Bool, List, [], ◌∷◌, ◌++◌, Option, Some, None, refl, sym, ap, ◌∙◌, arith, inl, inr}
-use Rattle.std.specs.Prelude.{find, slice_get, unwrap_or}
-use Rattle.std.specs.BTreeMap.{is_at}
+use Rattle.std.specs.Prelude.{find, length, slice_get, slice_index_or, slice_set, unwrap_or}
 use Rattle.std.specs.List.{AllByRecursion}
-use Rattle.std.specs.Map.{lookup}
 use Rattle.std.specs.Option.{option_map_or}
-use Rattle.std.specs.Ordering.{is_eq, nat_cmp, ordering_then}
-use Rattle.std.specs.declared.cmp.Ordering.{Ordering}
-use Rattle.std.specs.declared.cmp.Ordering.TheVariants.{Less, Equal, Greater}
-use Rattle.std.proofs.lemmas.Bool.{cases_eq, eqb-true}
-use Rattle.std.proofs.lemmas.Bool.Decides.{nat_tests}
+use Rattle.std.proofs.lemmas.List.{get_or-set_other, get_or-set_same}
+use Rattle.std.proofs.lemmas.Bool.{cases_eq, eq-eqb, eqb-true, ne_eqb}
 use Rattle.model.specs.Base.{Base, MemberRow, known_by, last_change, time_of}
 use Rattle.model.specs.Change.{Change, Name, AreInTimeOrder, has_name, is_before}
 use Rattle.model.specs.Held.{row_behind}
@@ -18,7 +13,8 @@ use Rattle.model_laws.proofs.ListLaws.{all_append, all_more}
 use Rattle.model_laws.proofs.Tables.{both_true}
 use Rattle.arrival_laws.proofs.AddLaws.{IsLast, all_kept, all_pass, earlier, in_two, is_last, last_added, last_other, later, order_from, to_order}
 use Rattle.arrival_laws.proofs.SoundLaws.{find_skips, not_named, order_kept, rises_between}
-use Rattle.holding.specs.Holds.{name_cmp, time_in}
+use Rattle.holding.specs.Times.{time_at}
+use Rattle.holding.proofs.TimesLaws.{one_more_time}
 
 -- the row that a member's last change makes of the base's
 abbrev behind : Base → ℕ → Option Change → MemberRow
@@ -71,20 +67,6 @@ added_counted b kept c comes =
 
 -- ---- names
 
-both_equal : (o p : Ordering) → is_eq (ordering_then o p) ≡ (is_eq o && is_eq p)
-both_equal Less p = refl
-both_equal Equal p = refl
-both_equal Greater p = refl
-
-same_number : (a b : ℕ) → is_eq (nat_cmp a b) ≡ eqb a b
-same_number a b = grind (arith, nat_tests)
-
-at_name : (c : Change) (name : Name) → is_at (name_cmp (c.member, c.number)) (name.member, name.number) ≡ has_name name c
-at_name c name =
-    let member = same_number c.member name.member in
-    let number = same_number c.number name.number in
-    both_equal (nat_cmp c.member name.member) (nat_cmp c.number name.number) ∙ (λ i. member i && number i)
-
 -- no other has its name
 none_named : (b : Base) (kept : List Change) (c : Change) (name : Name) → ComesNext b kept c → has_name name c ≡ true → AllByRecursion (λ d. has_name name d ≡ false) kept
 none_named b kept c name comes is =
@@ -113,12 +95,29 @@ time_added b kept c name comes =
           ap (λ o. option_map_or (λ (d : Change). d.time) o 0) (find_without (has_name name) (earlier c kept) (later c kept) c is ∙ ap (find (has_name name)) (sym two))
     ] refl
 
--- so do the entries with its time at its name
-pub times_added : (b : Base) (kept : List Change) (c : Change) (old new : List ((ℕ × ℕ) × ℕ)) → ComesNext b kept c → ((name : Name) → time_in old name ≡ time_of kept name)
-    → ((q : ℕ × ℕ) → lookup (is_at (name_cmp q)) new ≡ cond (is_at (name_cmp (c.member, c.number)) q) (Some c.time) (lookup (is_at (name_cmp q)) old))
-    → (name : Name) → time_in new name ≡ time_of (add kept c) name
-times_added b kept c old new comes were written name =
-    let q : ℕ × ℕ = (name.member, name.number) in
-    ap (λ o. unwrap_or o 0) (written q ∙ ap (λ t. cond t (Some c.time) (lookup (is_at (name_cmp q)) old)) (at_name c name))
-    ∙ (elim (has_name name c) as (λ t. unwrap_or (cond t (Some c.time) (lookup (is_at (name_cmp q)) old)) 0 ≡ cond t c.time (time_of kept name)) [ true ↦ refl | false ↦ were name ])
-    ∙ sym (time_added b kept c name comes)
+-- so do the lists of times, with its own behind those of its member
+pub times_added : (n : ℕ) (b : Base) (kept : List Change) (c : Change) (times : List (List ℕ)) → ComesNext b kept c → c.member < n → length times ≡ n
+    → ((name : Name) → name.member < n → time_at (slice_index_or times name.member []) (row_behind b kept name.member).count name.number ≡ time_of kept name)
+    → (name : Name) → name.member < n
+    → time_at (slice_index_or (slice_set times c.member (slice_index_or times c.member [] ++ c.time ∷ [])) name.member []) (row_behind b (add kept c) name.member).count name.number ≡ time_of (add kept c) name
+times_added n b kept c times comes is long were name within =
+    let own = slice_index_or times c.member [] in
+    let more = own ++ c.time ∷ [] in
+    let last = is_latest b kept c comes in
+    let count = (row_behind b kept name.member).count in
+    elim (cases_eq name.member c.member) [
+      | inl same ↦
+          let list : slice_index_or (slice_set times c.member more) name.member [] ≡ more = ap (λ m. slice_index_or (slice_set times c.member more) m []) same ∙ get_or-set_same times c.member more [] (omega (arith, is, long)) in
+          let up : c.number ≡ count + 1 = comes.next ∙ ap (λ m. (row_behind b kept m).count + 1) (sym same) in
+          let now : (row_behind b (add kept c) name.member).count ≡ count + 1 = ap (λ m. (row_behind b (add kept c) m).count) same ∙ ap (λ o. (behind b c.member o).count) (last_added kept c last) ∙ up in
+          let yes : eqb c.member name.member ≡ true = eq-eqb c.member name.member (sym same) in
+          let named : has_name name c ≡ eqb (count + 1) name.number = ap (λ t. t && eqb c.number name.number) yes ∙ ap (λ q. eqb q name.number) up in
+          let was : time_at own count name.number ≡ time_of kept name = ap (λ m. time_at (slice_index_or times m []) count name.number) (sym same) ∙ were name within in
+          (λ i. time_at (list i) (now i) name.number) ∙ one_more_time own c.time count name.number ∙ (λ i. cond (sym named i) c.time (was i)) ∙ sym (time_added b kept c name comes)
+      | inr other ↦
+          let list : slice_index_or (slice_set times c.member more) name.member [] ≡ slice_index_or times name.member [] = get_or-set_other times c.member name.member more [] other in
+          let now : (row_behind b (add kept c) name.member).count ≡ count = ap (λ o. (behind b name.member o).count) (last_other kept c name.member (order_from kept comes.in_order) last other) in
+          let no : eqb c.member name.member ≡ false = ne_eqb c.member name.member (λ e. other (sym e)) in
+          let none : has_name name c ≡ false = ap (λ t. t && eqb c.number name.number) no in
+          (λ i. time_at (list i) (now i) name.number) ∙ were name within ∙ sym (time_added b kept c name comes ∙ ap (λ t. cond t c.time (time_of kept name)) none)
+    ]

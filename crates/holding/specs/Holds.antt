@@ -1,34 +1,24 @@
 -- What is held, in memory, of a base and the changes kept behind it.
-use Rattle.std.specs.Prelude.{◌≡◌, ℕ, ◌+◌, ◌<◌, ◌≤◌, List, [], unwrap_or}
-use Rattle.std.specs.BTreeMap.{is_at}
+use Rattle.std.specs.Prelude.{◌≡◌, ℕ, ◌+◌, ◌<◌, ◌≤◌, List, [], length, slice_index_or}
 use Rattle.std.specs.List.{AllByRecursion}
-use Rattle.std.specs.Map.{lookup}
-use Rattle.std.specs.Ordering.{nat_cmp, on, then_cmp}
-use Rattle.std.specs.declared.cmp.Ordering.{Ordering}
 use Rattle.model.specs.Base.{Base, time_of}
 use Rattle.model.specs.Change.{Change, Name, IsChange, AreInTimeOrder}
-use Rattle.model.specs.Held.{held_behind, wrong_references}
+use Rattle.model.specs.Held.{held_behind, row_behind, wrong_references}
 use Rattle.model.specs.State.{after, atoms, by_ids}
 use Rattle.arrival_laws.specs.Document.{ComesInTurn}
 use Rattle.doc_store.specs.Documents.{IsDocument}
 use Rattle.doc_store.specs.Kept.{document_of}
 use Rattle.stability.specs.Rows.{rows_in}
+use Rattle.holding.specs.Times.{time_at}
 use Rattle.holding.specs.declared.holding.Holding.{Holding}
-
--- the order of names, by member and then by number
-abbrev pub name_cmp : ℕ × ℕ → ℕ × ℕ → Ordering
-name_cmp = then_cmp (on (λ k. k.0) nat_cmp) (on (λ k. k.1) nat_cmp)
-
--- the time of the change of this name in the entries, or 0
-abbrev pub time_in : List ((ℕ × ℕ) × ℕ) → Name → ℕ
-time_in entries name = unwrap_or (lookup (is_at (name_cmp (name.member, name.number))) entries) 0
 
 -- The members' rows, the times and the document are those of the base with the changes behind it, whose moves are still to be done. These
 -- changes are in order, and none has a greater number than its member's row.
 pub record Holds (h : Holding) (n : ℕ) (b : Base) (kept : List Change) : Type 0 where
   pub few : n ≤ 32
   pub rows : h.fronts ≡ rows_in n (held_behind b kept)
-  pub times : (name : Name) → time_in h.times.entries name ≡ time_of kept name
+  pub timed : length h.times ≡ n
+  pub times : (name : Name) → name.member < n → time_at (slice_index_or h.times name.member []) (row_behind b kept name.member).count name.number ≡ time_of kept name
   pub document : IsDocument (document_of h.document) b.state (atoms kept)
   pub undone : h.document.moves.log.moves ≡ []
   pub in_order : AreInTimeOrder kept

@@ -1,3 +1,4 @@
+pub mod Times
 pub mod Holds
 pub mod Misfits
 pub mod Laws

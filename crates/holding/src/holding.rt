@@ -1,6 +1,6 @@
 //! The document, the members and the times of changes.
 
-ghost use Rattle.std.specs.Prelude.{◌≡◌, ◌<◌, ◌≤◌, ℕ, [], List, IfOk, length, map, replicate, sum_by};
+ghost use Rattle.std.specs.Prelude.{◌≡◌, ◌<◌, ◌≤◌, ℕ, [], List, IfOk, length, map, replicate, slice_index, slice_index_or, sum_by};
 ghost use Rattle.std.specs.Option.{option_map};
 ghost use Rattle.model.specs.Base.{Base, base_of, members as members_of};
 ghost use Rattle.model.specs.Change.{Change, IsChange};
@@ -11,16 +11,17 @@ ghost use Rattle.model.specs.State.{atoms, by_ids};
 ghost use Rattle.tree_log.specs.Moves.{Worked};
 ghost use Rattle.doc_store.specs.Documents.{DecodesAll, DecodesSome, IsDocument};
 ghost use Rattle.replica.specs.FaultText.{misfit_of};
-ghost use Rattle.holding.specs.Holds.{Holds, MayJoin, time_in};
+ghost use Rattle.holding.specs.Holds.{Holds, MayJoin};
 ghost use Rattle.holding.specs.Misfits.{IsFirst, forgotten_causes, late_causes, late_times, missing_causes, of_head};
+ghost use Rattle.holding.specs.Times.{time_at};
 
+use crate::times::Times;
 use doc_store::{Doc, Draft};
 use lazy_blocks::Block;
 use outside::Tally;
 use replica::Misfit;
 use stability::{Fronts, MemberRow};
 use std::alloc::{AllocError, Global};
-use std::collections::BTreeMap;
 use version_vector::Vector;
 
 /// What is held of a document of 1 to 32 members.
@@ -30,8 +31,8 @@ use version_vector::Vector;
 pub struct Holding {
     document: Draft,
     fronts: Fronts,
-    /// When each kept change was made, by its member and its number.
-    times: BTreeMap<(u8, u32), u64>,
+    /// When the kept changes were made.
+    times: Times,
 }
 
 impl Holding {
@@ -45,7 +46,7 @@ impl Holding {
         Ok(Holding {
             document: Draft::of(Doc::new(alloc)),
             fronts: Fronts::from_rows(alloc, &rows)?,
-            times: BTreeMap::new(alloc),
+            times: Times::none(alloc, members)?,
         })
     }
 
@@ -94,7 +95,7 @@ impl Holding {
         let head = block.head();
         let document = document.apply(block.ops(), tally)?;
         fronts.take(head);
-        times.insert((head.member, head.number), head.time)?;
+        times.push(head.member, head.time)?;
         Ok(Holding {
             document,
             fronts,
@@ -191,9 +192,15 @@ impl Holding {
 
     /// When a change was made, or 0 where it isn't kept.
     fn time_of(&self, member: u8, number: u32) -> u64
-        ensures { result ≡ time_in self.now.times.entries (record { member = member; number = number }) }
+        requires row { member < length self.now.fronts }
+        requires times { member < length self.now.times }
+        ensures { result ≡ time_at (slice_index_or self.now.times member [])
+            (slice_index (map (λ r. r.count) self.now.fronts) member) number }
     {
-        self.times.get(&(member, number)).copied().unwrap_or(0)
+        match self.fronts.count(member).checked_sub(number) {
+            Some(before) => self.times.back(member, before),
+            None => 0,
+        }
     }
 }
 

@@ -5,5 +5,6 @@
 
 mod holding;
 pub mod laws;
+mod times;
 
 pub use holding::Holding;

@@ -1,4 +1,4 @@
-use Rattle.std.proofs.Common.{◌≡◌, [], List, refl, sym, subst, ◌∙◌}
+use Rattle.std.proofs.Common.{◌≡◌, ◌<◌, [], List, refl, sym, ap, subst, ◌∙◌, arith}
 use Rattle.std.specs.List.{AllByRecursion}
 use Rattle.model.specs.Held.{wrong_references}
 use Rattle.model.specs.State.{Atom, State, atoms, by_ids, change_atoms}
@@ -6,7 +6,8 @@ use Rattle.model_laws.specs.Arrival.{Rises}
 use Rattle.doc_store.specs.Documents.{HasNoRow, IsFormed, Joins, parts_of}
 use Rattle.doc_store.specs.Kept.{document_of, state_of}
 use Rattle.holding.specs.declared.holding.Holding.{Holding}
-use Rattle.holding.proofs.HoldLaws.{many_causes, many_rows, within_rows}
+use Rattle.op_grammar.specs.declared.head.Head.{Head}
+use Rattle.holding.proofs.HoldLaws.{many_causes, many_rows, within_rows, within_times}
 use Rattle.holding.proofs.JoinLaws.{holds_added}
 use Rattle.holding.proofs.OperationLaws.{formed_of, no_row_in_turn, rises_within}
 use Rattle.holding.proofs.holding.Holding.join.Goals as goal
@@ -38,8 +39,11 @@ take-requires-clause-member c = let (n, b, kept, holds, may) = c.requires in wit
 pub take-requires-clause-causes : goal.take-requires-clause-causes
 take-requires-clause-causes c = let (n, b, kept, holds, may) = c.requires in many_causes n c.args.block.now c.head-head.result.now may.is_change c.head-head.ensures ∙ sym (many_rows c.args.self n b kept holds)
 
+pub push-requires : goal.push-requires
+push-requires c = let (n, b, kept, holds, may) = c.requires in within_times c.args.self n b kept c.head-head.result.now.member holds (omega (arith, may.is_change.member, ap (λ (x : Head). x.member) c.head-head.ensures))
+
 pub returns-clause-joins : goal.returns-clause-joins
 returns-clause-joins c = λ n b kept holds may.
-    let now : Holding = record { document = c.in_ok-document.document; fronts = c.take.new.self; times = c.insert.new.self } in
+    let now : Holding = record { document = c.in_ok-document.document; fronts = c.take.new.self; times = c.push.new.self } in
     holds_added c.args.self now n b kept c.args.block.now c.head-head.result.now holds may c.head-head.ensures c.take.ensures
-    (subst (λ (l : List Atom). Joins (document_of c.args.self.document) l (document_of c.in_ok-document.document)) c.ops.ensures c.in_ok-document.ensures.joins) c.in_ok-document.ensures.undone c.in_ok-insert.ensures.updates.0
+    (subst (λ (l : List Atom). Joins (document_of c.args.self.document) l (document_of c.in_ok-document.document)) c.ops.ensures c.in_ok-document.ensures.joins) c.in_ok-document.ensures.undone c.in_ok-push.ensures

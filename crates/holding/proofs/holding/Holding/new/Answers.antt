@@ -10,6 +10,6 @@ use Rattle.holding.proofs.holding.Holding.new.Goals as goal
 pub returns : goal.returns
 returns c =
     let draft : c.of.result ≡ record { contents = c.new.result.contents; moves = record { log = c.new.result.log; late = [] } } = c.of.ensures in
-    holds_none (record { document = c.of.result; fronts = c.in_ok-from_rows.field-0; times = c.new-2.result }) c.args.members c.requires.few
-    (c.in_ok-from_rows.ensures ∙ ap (λ (rows : List code.MemberRow). map row_of rows) (c.deref.ensures.value ∙ c.in_ok-rows.ensures)) c.new-2.ensures.empty
+    holds_none (record { document = c.of.result; fronts = c.in_ok-from_rows.field-0; times = c.in_ok-none.field-0 }) c.args.members c.requires.few
+    (c.in_ok-from_rows.ensures ∙ ap (λ (rows : List code.MemberRow). map row_of rows) (c.deref.ensures.value ∙ c.in_ok-rows.ensures)) c.in_ok-none.ensures
     (subst (λ (d : Drafted). IsDocument (document_of d) empty_state []) (sym draft) c.new.ensures) (ap (λ (d : Drafted). d.moves.log.moves) draft ∙ c.new.ensures.moves)
