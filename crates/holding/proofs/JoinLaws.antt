@@ -1,5 +1,5 @@
 -- What is held without changes, with one more, and what is unfit there.
-use Rattle.std.proofs.Common.{◌≡◌, ℕ, ◌<◌, ◌≤◌, true, false, cond, List, [], ◌∷◌, ◌++◌, map, replicate, length, Option, Some, None, refl, sym, ap, subst, ◌∙◌, append_assoc}
+use Rattle.std.proofs.Common.{◌≡◌, ℕ, ◌-◌, ◌<◌, ◌≤◌, Bool, true, false, cond, List, [], ◌∷◌, ◌++◌, map, replicate, length, Option, Some, None, refl, sym, ap, subst, ◌∙◌, append_assoc}
 use Rattle.std.specs.Prelude.{nat_lt, slice_get, slice_index_or, slice_set}
 use Rattle.std.proofs.lemmas.List.{get_or-replicate, length-replicate, length-set}
 use Rattle.std.proofs.lemmas.List.Sorted.{length_permutation}
@@ -27,7 +27,7 @@ use Rattle.replica.specs.declared.fault.Misfit.{Misfit}
 use Rattle.stability.specs.Rows.{row_of, taken}
 use Rattle.stability.proofs.HeldLaws.{added_makes_row}
 use Rattle.holding.specs.Holds.{Holds, MayJoin}
-use Rattle.holding.specs.Times.{time_at}
+use Rattle.holding.specs.Times.{back, time_at}
 use Rattle.holding.specs.Misfits.{forgotten_causes, late_causes, late_times, missing_causes, of_head}
 use Rattle.holding.specs.declared.holding.Holding.{Holding}
 use Rattle.holding.proofs.FirstLaws.{first_of_two}
@@ -37,10 +37,14 @@ use Rattle.holding.proofs.PlacedLaws.{ComesNext, added_counted, added_in_order, 
 
 -- ---- no changes
 
+of_none : (t : Bool) (k : ℕ) → cond t 0 (back [] k) ≡ 0
+of_none true k = refl
+of_none false k = refl
+
 none_known : (n : ℕ) (times : List (List ℕ)) (last : ℕ) → times ≡ replicate n [] → (name : Name) → name.member < n → time_at (slice_index_or times name.member []) last name.number ≡ 0
 none_known n times last none name within =
-    let empty : slice_index_or times name.member [] ≡ [] = ap (λ (l : List (List ℕ)). slice_index_or l name.member []) none ∙ get_or-replicate n name.member [] in
-    ap (λ (l : List ℕ). time_at l last name.number) empty ∙ elim (nat_lt last name.number) as (λ t. cond t 0 0 ≡ 0) [ true ↦ refl | false ↦ refl ]
+    let empty : slice_index_or times name.member [] ≡ [] = ap (λ (l : List (List ℕ)). slice_index_or l name.member []) none ∙ get_or-replicate n name.member [] [] within in
+    ap (λ (l : List ℕ). time_at l last name.number) empty ∙ of_none (nat_lt last name.number) (last - name.number)
 
 pub holds_none : (h : Holding) (n : ℕ) → n ≤ 32 → h.fronts ≡ map row_of (replicate n (silent n)) → h.times ≡ replicate n [] → IsDocument (document_of h.document) empty_state [] → h.document.moves.log.moves ≡ [] → Holds h n (base_of n [] 0) []
 holds_none h n few rows none document undone = record {

@@ -1,5 +1,5 @@
 -- Times that are kept member by member.
-use Rattle.std.proofs.Common.{◌≡◌, ℕ, suc, ◌<◌, ◌≤◌, ◌-◌, ◌+◌, true, false, cond, eqb, ltb, List, [], ◌∷◌, ◌++◌, map, length, reverse, slice_get, unwrap_or, ap, sym, ◌∙◌, arith, refl, inl, inr}
+use Rattle.std.proofs.Common.{◌≡◌, ℕ, suc, ◌<◌, ◌-◌, ◌+◌, true, false, cond, eqb, ltb, List, [], ◌∷◌, ◌++◌, map, length, slice_get, unwrap_or, ap, sym, ◌∙◌, arith, refl, inl, inr}
 use Rattle.std.specs.Prelude.{slice_index_or, slice_set}
 use Rattle.std.proofs.lemmas.List.{get_or-map, length-map, map-set, reverse-append}
 use Rattle.std.proofs.lemmas.Bool.{cases_eq, cases_lt, eq-eqb, ne_eqb, lt-ltb, le-ltb}

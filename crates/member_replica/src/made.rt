@@ -229,7 +229,7 @@ fn kept_with<'a>(
 }
 
 /// The same changes, of the same bytes.
-fn copied<'a>(alloc: Global, shelf: &Shelf<'a>) -> Result<Shelf<'a>, AllocError>
+pub(crate) fn copied<'a>(alloc: Global, shelf: &Shelf<'a>) -> Result<Shelf<'a>, AllocError>
     ensures { IfOk result (λ copy. copy ≡ shelf.now) }
 {
     let mut copy = Shelf::new(alloc);

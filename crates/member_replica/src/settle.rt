@@ -15,6 +15,7 @@ ghost use Rattle.member_replica.specs.Work.{operations_in, readied, ready_in};
 ghost use Rattle.replica.specs.FaultText.{misfit_of};
 
 use crate::ledger::Ledger;
+use crate::made::copied;
 use crate::report::{Refusal, Report};
 use causal_inbox::{FullNames, Inbox, Offered};
 use holding::Holding;
@@ -57,7 +58,7 @@ pub(crate) fn settle<'a>(
         → DecodesSome tally.old tally.new (2 * operations_in (readied n (held_behind (base_of n [] 0)) kept.now kept.now waiting.now offered.now)) }
 {
     let held = holding.counts();
-    let (mut inbox, known) = Inbox::new(alloc, copy_of(alloc, waiting)?, &held)?;
+    let (mut inbox, known) = Inbox::new(alloc, copied(alloc, waiting)?, &held)?;
     let mut report = begun(alloc, known);
     offer_all(&mut inbox, &mut report, &held, kept, offered)?;
     let ledger = Ledger::of(alloc, kept)?;
@@ -68,17 +69,6 @@ pub(crate) fn settle<'a>(
         report,
     };
     judging.judge_all(tally)?.finish(alloc)
-}
-
-/// The same blocks.
-fn copy_of<'a>(alloc: Global, shelf: &Shelf<'a>) -> Result<Shelf<'a>, AllocError>
-    ensures { IfOk result (λ copy. copy ≡ shelf.now) }
-{
-    let mut copy = Shelf::new(alloc);
-    for i in 0..shelf.len() {
-        copy.push(shelf.at(i).copy())?;
-    }
-    Ok(copy)
 }
 
 /// The report where so many waiting changes are known.

@@ -13,7 +13,7 @@ use Rattle.member_replica.proofs.JudgeLaws.{begins_judging, settled_so, settled_
 use Rattle.member_replica.proofs.settle.settle.Goals as goal
 
 pub new-requires-clause-few : goal.new-requires-clause-few
-new-requires-clause-few c = omega (arith, ap (λ (cs : List Change). length cs) c.in_ok-copy_of.ensures, c.requires.1.few)
+new-requires-clause-few c = omega (arith, ap (λ (cs : List Change). length cs) c.in_ok-copied.ensures, c.requires.1.few)
 
 pub new-requires-clause-members : goal.new-requires-clause-members
 new-requires-clause-members c =
@@ -21,10 +21,10 @@ new-requires-clause-members c =
     let m = c.requires.1 in
     let held = c.counts-held.result in
     let many = as_many n (reading n c.args.kept.now) held (c.counts-held.ensures n (base_of n [] 0) c.args.kept.now m.holds) in
-    subst (AllByRecursion (λ d. length d.causes ≡ length held)) (sym c.in_ok-copy_of.ensures) (all_more (IsChange n) (λ d. length d.causes ≡ length held) (λ d is. is.causes_each ∙ sym many) c.args.waiting.now m.waiting)
+    subst (AllByRecursion (λ d. length d.causes ≡ length held)) (sym c.in_ok-copied.ensures) (all_more (IsChange n) (λ d. length d.causes ≡ length held) (λ d is. is.causes_each ∙ sym many) c.args.waiting.now m.waiting)
 
 pub new-requires-clause-rise : goal.new-requires-clause-rise
-new-requires-clause-rise c = subst (EachAfter IsNextName []) (sym c.in_ok-copy_of.ensures) c.requires.1.by_name
+new-requires-clause-rise c = subst (EachAfter IsNextName []) (sym c.in_ok-copied.ensures) c.requires.1.by_name
 
 pub offer_all-requires-clause-offered : goal.offer_all-requires-clause-offered
 offer_all-requires-clause-offered c =
@@ -36,7 +36,7 @@ offer_all-requires-clause-offered c =
 pub offer_all-requires-clause-few : goal.offer_all-requires-clause-few
 offer_all-requires-clause-few c =
     let told = c.begun-report.ensures in
-    let known = c.in_ok-inbox.ensures.known ∙ ap (λ (cs : List Change). (begun (counted c.counts-held.result) [] cs).report.known) c.in_ok-copy_of.ensures in
+    let known = c.in_ok-inbox.ensures.known ∙ ap (λ (cs : List Change). (begun (counted c.counts-held.result) [] cs).report.known) c.in_ok-copied.ensures in
     omega (arith, ap (λ (r : Report). r.known) told, ap (λ (r : Report). r.same) told, few_begun (counted c.counts-held.result) c.args.waiting.now c.in_ok-inbox.known known, c.requires.1.few)
 
 pub of-requires : goal.of-requires
@@ -52,7 +52,7 @@ judge_all-requires-clause-judging c =
     let kept = c.args.kept.now in
     let waiting = c.args.waiting.now in
     let held = c.counts-held.result in
-    let copy = c.in_ok-copy_of.ensures in
+    let copy = c.in_ok-copied.ensures in
     let e = c.counts-held.ensures n (base_of n [] 0) kept m.holds in
     let p = are_pooled n kept waiting c.args.offered.now held c.in_ok-inbox.inbox.pool c.offer_all.new.inbox.pool c.in_ok-inbox.known (report_of c.begun-report.result) (report_of c.offer_all.new.report) e m.waiting m.offered m.by_name
     (c.in_ok-inbox.ensures.pool ∙ ap (λ (cs : List Change). (begun (counted held) [] cs).pool) copy) (c.in_ok-inbox.ensures.known ∙ ap (λ (cs : List Change). (begun (counted held) [] cs).report.known) copy) c.begun-report.ensures
@@ -67,7 +67,7 @@ judge_all-requires-clause-few c =
     let kept = c.args.kept.now in
     let waiting = c.args.waiting.now in
     let held = c.counts-held.result in
-    let copy = c.in_ok-copy_of.ensures in
+    let copy = c.in_ok-copied.ensures in
     let e = c.counts-held.ensures n (base_of n [] 0) kept m.holds in
     let p = are_pooled n kept waiting c.args.offered.now held c.in_ok-inbox.inbox.pool c.offer_all.new.inbox.pool c.in_ok-inbox.known (report_of c.begun-report.result) (report_of c.offer_all.new.report) e m.waiting m.offered m.by_name
     (c.in_ok-inbox.ensures.pool ∙ ap (λ (cs : List Change). (begun (counted held) [] cs).pool) copy) (c.in_ok-inbox.ensures.known ∙ ap (λ (cs : List Change). (begun (counted held) [] cs).report.known) copy) c.begun-report.ensures
@@ -79,7 +79,7 @@ returns-clause-settled c n m =
     let kept = c.args.kept.now in
     let waiting = c.args.waiting.now in
     let held = c.counts-held.result in
-    let copy = c.in_ok-copy_of.ensures in
+    let copy = c.in_ok-copied.ensures in
     let e = c.counts-held.ensures n (base_of n [] 0) kept m.holds in
     let p = are_pooled n kept waiting c.args.offered.now held c.in_ok-inbox.inbox.pool c.offer_all.new.inbox.pool c.in_ok-inbox.known (report_of c.begun-report.result) (report_of c.offer_all.new.report) e m.waiting m.offered m.by_name
     (c.in_ok-inbox.ensures.pool ∙ ap (λ (cs : List Change). (begun (counted held) [] cs).pool) copy) (c.in_ok-inbox.ensures.known ∙ ap (λ (cs : List Change). (begun (counted held) [] cs).report.known) copy) c.begun-report.ensures
@@ -95,7 +95,7 @@ returns-in_err-judge_all-clause-tally c = λ n m.
     let kept = c.args.kept.now in
     let waiting = c.args.waiting.now in
     let held = c.counts-held.result in
-    let copy = c.in_ok-copy_of.ensures in
+    let copy = c.in_ok-copied.ensures in
     let e = c.counts-held.ensures n (base_of n [] 0) kept m.holds in
     let p = are_pooled n kept waiting c.args.offered.now held c.in_ok-inbox.inbox.pool c.offer_all.new.inbox.pool c.in_ok-inbox.known (report_of c.begun-report.result) (report_of c.offer_all.new.report) e m.waiting m.offered m.by_name
     (c.in_ok-inbox.ensures.pool ∙ ap (λ (cs : List Change). (begun (counted held) [] cs).pool) copy) (c.in_ok-inbox.ensures.known ∙ ap (λ (cs : List Change). (begun (counted held) [] cs).report.known) copy) c.begun-report.ensures
@@ -108,7 +108,7 @@ returns-clause-tally c = λ n m.
     let kept = c.args.kept.now in
     let waiting = c.args.waiting.now in
     let held = c.counts-held.result in
-    let copy = c.in_ok-copy_of.ensures in
+    let copy = c.in_ok-copied.ensures in
     let e = c.counts-held.ensures n (base_of n [] 0) kept m.holds in
     let p = are_pooled n kept waiting c.args.offered.now held c.in_ok-inbox.inbox.pool c.offer_all.new.inbox.pool c.in_ok-inbox.known (report_of c.begun-report.result) (report_of c.offer_all.new.report) e m.waiting m.offered m.by_name
     (c.in_ok-inbox.ensures.pool ∙ ap (λ (cs : List Change). (begun (counted held) [] cs).pool) copy) (c.in_ok-inbox.ensures.known ∙ ap (λ (cs : List Change). (begun (counted held) [] cs).report.known) copy) c.begun-report.ensures
