@@ -7,13 +7,13 @@ use Rattle.lazy_blocks.specs.declared.ops.Ops.TheInside.{Inside}
 
 -- the last operations of the block, so many
 abbrev pub operations_left : Inside → List Operation
-operations_left o = drop (length o.block.operations - o.count) o.block.operations
+operations_left o = drop (length o.block.now.operations - o.count) o.block.now.operations
 
 abbrev pub atoms_left : Inside → List Atom
-atoms_left o = by_ids o.block.time o.block.member o.index (operations_left o)
+atoms_left o = by_ids o.block.now.time o.block.now.member o.index (operations_left o)
 
 pub record AreLeft (o : Inside) : Type 0 where
-  pub is : IsChange (length o.block.causes) o.block
-  pub few : o.count ≤ length o.block.operations
+  pub is : IsChange (length o.block.now.causes) o.block.now
+  pub few : o.count ≤ length o.block.now.operations
   pub rest : o.rest.now ≡ body (operations_left o)
   pub within : o.index + sum_by width_of (operations_left o) ≤ 65536

@@ -92,10 +92,10 @@ impl<'a> Block<'a> {
     }
 
     /// Its operations, to be handed out from the first on.
-    pub fn ops(&self) -> Ops<'a>
+    pub fn ops(&self) -> Ops<'_, 'a>
         ensures { result ≡ by_ids self.now.time self.now.member 0 self.now.operations }
     {
-        Ops::new(self.copy(), self.body)
+        Ops::new(self, self.body)
     }
 
     /// The same change, of the same bytes.

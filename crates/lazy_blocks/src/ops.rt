@@ -1,7 +1,7 @@
 //! The operations of a change, one by one.
 
-ghost use Rattle.std.specs.Prelude.{◌≡◌};
-ghost use Rattle.model.specs.Change.{body};
+ghost use Rattle.std.specs.Prelude.{◌≡◌, length};
+ghost use Rattle.model.specs.Change.{IsChange, body};
 ghost use Rattle.model.specs.State.{by_ids};
 ghost use Rattle.op_grammar.specs.Sources.{HandsOut, work_after};
 
@@ -13,8 +13,8 @@ use std::marker::Model;
 
 /// The operations of a block that weren't handed out yet. Contracts see them as a list, each with its id.
 #[derive(Debug, Drop)]
-pub struct Ops<'a> {
-    block: Block<'a>,
+pub struct Ops<'b, 'a> {
+    block: &'b Block<'a>,
     /// Their spellings.
     rest: &'a [u8],
     /// How many they are.
@@ -23,7 +23,7 @@ pub struct Ops<'a> {
     index: u32,
 }
 
-impl<'a> Model for Ops<'a> {
+impl<'b, 'a> Model for Ops<'b, 'a> {
     ghost use Rattle.std.specs.Prelude.{List};
     ghost use Rattle.model.specs.State.{Atom};
 
@@ -36,11 +36,12 @@ impl<'a> Model for Ops<'a> {
     ghost invariant = { AreLeft };
 }
 
-impl<'a> Ops<'a> {
+impl<'b, 'a> Ops<'b, 'a> {
     /// All operations of a block, whose body is given.
-    pub(crate) fn new(block: Block<'a>, spelled: &'a [u8]) -> Ops<'a>
-        requires { spelled.now ≡ body block.operations }
-        ensures { result ≡ by_ids block.entry.time block.entry.member 0 block.entry.operations }
+    pub(crate) fn new(block: &'b Block<'a>, spelled: &'a [u8]) -> Ops<'b, 'a>
+        requires change { IsChange (length block.now.causes) block.now }
+        requires spelled { spelled.now ≡ body block.now.operations }
+        ensures { result ≡ by_ids block.now.time block.now.member 0 block.now.operations }
     {
         let count = block.head().count;
         Ops {
@@ -52,7 +53,7 @@ impl<'a> Ops<'a> {
     }
 }
 
-impl<'a> OpSource<'a> for Ops<'a> {
+impl<'b, 'a> OpSource<'a> for Ops<'b, 'a> {
     ghost left = { λ ops. ops };
 
     fn next_op(&mut self, tally: &mut Tally) -> Option<(OpId, OpRef<'a>)> {

@@ -5,13 +5,13 @@ use Rattle.lazy_blocks.proofs.ops.OpsOpSource.next_op.Goals as goal
 
 pub unreachable-requires : goal.unreachable-requires
 unreachable-requires c =
-    let members : c.len.result ≡ length c.self.inside.block.causes = c.len.ensures.value ∙ ap (λ (h : Head). length h.causes) c.head-head.ensures in
+    let members : c.len.result ≡ length c.self.inside.block.now.causes = c.len.ensures.value ∙ ap (λ (h : Head). length h.causes) c.head-head.ensures in
     let next = next_left c.self.inside c.self.invariant (omega arith) (omega (arith, members, c.len.ensures.few)) in
     no_fault c.self.inside next c.len.result members c.in-Err.field-0 c.in-Err.ensures
 
 pub invariant_of-self : goal.invariant_of-self
 invariant_of-self c =
-    let members : c.len.result ≡ length c.self.inside.block.causes = c.len.ensures.value ∙ ap (λ (h : Head). length h.causes) c.head-head.ensures in
+    let members : c.len.result ≡ length c.self.inside.block.now.causes = c.len.ensures.value ∙ ap (λ (h : Head). length h.causes) c.head-head.ensures in
     let some : 1 ≤ c.self.inside.count = omega arith in
     let next = next_left c.self.inside c.self.invariant some (omega (arith, members, c.len.ensures.few)) in
     let read = next_read c.self.inside c.self.invariant next c.len.result c.in-Ok.read.0 c.in-Ok.read.1 c.width_of.result members (omega (arith, c.len.ensures.few)) c.in-Ok.ensures c.width_of.ensures in
@@ -19,7 +19,7 @@ invariant_of-self c =
 
 pub returns-clause-handed : goal.returns-clause-handed
 returns-clause-handed c =
-    let members : c.len.result ≡ length c.self.inside.block.causes = c.len.ensures.value ∙ ap (λ (h : Head). length h.causes) c.head-head.ensures in
+    let members : c.len.result ≡ length c.self.inside.block.now.causes = c.len.ensures.value ∙ ap (λ (h : Head). length h.causes) c.head-head.ensures in
     let some : 1 ≤ c.self.inside.count = omega arith in
     let next = next_left c.self.inside c.self.invariant some (omega (arith, members, c.len.ensures.few)) in
     let read = next_read c.self.inside c.self.invariant next c.len.result c.in-Ok.read.0 c.in-Ok.read.1 c.width_of.result members (omega (arith, c.len.ensures.few)) c.in-Ok.ensures c.width_of.ensures in
