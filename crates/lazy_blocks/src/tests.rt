@@ -23,6 +23,18 @@ fn first_block<'a>(alloc: Global, bytes: &'a [u8]) -> Option<Block<'a>> {
     }
 }
 
+/// Whether the block hands out the put and the text of `CHANGE`, and then nothing.
+fn are_in_order(block: &Block<'_>, tally: &mut Tally) -> bool {
+    let mut ops = block.ops();
+    let put = ops.next_op(tally);
+    let typed = match ops.next_op(tally) {
+        Some((id, OpRef::TypeText { text, .. })) => id.index == 1 && text == "hi",
+        _ => false,
+    };
+    let is_end = ops.next_op(tally).is_none();
+    matches!(&put, Some((_, OpRef::PutKey { key: "a", .. }))) && typed && is_end
+}
+
 #[test]
 fn operations_come_in_order(rt: HostRuntime) -> Result<(), Fail> {
     let alloc = rt.alloc();
@@ -37,17 +49,7 @@ fn operations_come_in_order(rt: HostRuntime) -> Result<(), Fail> {
         assert_eq!(rt; block.bytes(), CHANGE);
         assert_eq!(rt; block.copy().head().width, 3);
         let mut tally = Tally::new();
-        let mut ops = block.ops();
-        let put = ops.next_op(&mut tally);
-        assert!(rt; matches!(&put, Some((_, OpRef::PutKey { key: "a", .. }))));
-        match ops.next_op(&mut tally) {
-            Some((id, OpRef::TypeText { text, .. })) => {
-                assert_eq!(rt; id.index, 1);
-                assert_eq!(rt; text, "hi");
-            }
-            _ => assert!(rt; false),
-        }
-        assert!(rt; ops.next_op(&mut tally).is_none());
+        assert!(rt; are_in_order(block, &mut tally));
         assert_eq!(rt; tally.decoded(), 2);
     }
     Ok(())
