@@ -7,7 +7,7 @@ use Rattle.std.specs.Cmp.Lexicographic.{slice_cmp}
 use Rattle.std.specs.FinMap.{FinMap, get, insert, from_entries, entries, code as map_code}
 use Rattle.std.specs.Coded.{Coded, code_by, coded×, coded_ℕ, coded_list}
 use Rattle.op_ids.specs.declared.OpId.{OpId}
-use Rattle.op_ids.specs.Order.{id_eq}
+use Rattle.op_ids.specs.Order.{id_eq, id_lt}
 use Rattle.op_ids.specs.Codes.{id_code}
 use Rattle.model.specs.Value.{Value}
 use Rattle.model.specs.State.{Register, register_cmp, Written}
@@ -62,6 +62,10 @@ key_list es = map key_entry es
 
 abbrev pub keys_of : {A : Type 0} → List (String A × code.Written) → Keys
 keys_of es = from_entries (key_list es)
+
+-- the write in the place of w, if its id is greater
+abbrev pub overwritten : Written → OpId → Value → Written
+overwritten w id value = cond (id_lt w.writer id) (record { writer = id; value = value }) w
 
 -- the write, unless a greater id wrote before
 abbrev pub key_written : Keys → List ℕ → OpId → Value → Keys

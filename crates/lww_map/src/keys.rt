@@ -2,9 +2,9 @@
 ghost use Rattle.std.specs.Prelude.{◌≡◌, ◌++◌, OnOk, OnErr, map};
 ghost use Rattle.std.specs.FinMap as fin;
 ghost use Rattle.std.specs.BTreeMap as tree;
-ghost use Rattle.std.specs.String.{string_bytes, string_cmp};
-ghost use Rattle.op_grammar.specs.Values.{own_value_of, value_of};
-ghost use Rattle.lww_map.specs.Keys.{Keys, key_written, keys_of, written_seen, tagged, rows_seen, key_list};
+ghost use Rattle.std.specs.String.{string_cmp};
+ghost use Rattle.op_grammar.specs.Values.{value_of};
+ghost use Rattle.lww_map.specs.Keys.{seen, overwritten, key_written, written_seen, tagged, rows_seen, key_list};
 
 use crate::registers::RegisterRow;
 use cbor_det::OwnText;
@@ -12,7 +12,6 @@ use op_grammar::{OwnValue, Value};
 use op_ids::OpId;
 use std::alloc::{AllocError, Global};
 use std::collections::BTreeMap;
-use std::collections::btree_map::Entry;
 use std::marker::Model;
 
 // Who wrote a register last, and what.
@@ -20,6 +19,22 @@ use std::marker::Model;
 pub struct Written {
     pub writer: OpId,
     pub value: OwnValue,
+}
+
+impl Written {
+    // Takes the write in if its id is greater, and else copies nothing.
+    fn overwrite(&mut self, alloc: Global, id: OpId, value: Value<'_>) -> Result<(), AllocError>
+        ensures ok { OnOk result (seen self.new ≡ overwritten (seen self.old) id (value_of value.entry)) }
+        ensures err { OnErr result (self.new ≡ self.old) }
+    {
+        if self.writer.is_before(id) {
+            *self = Written {
+                writer: id,
+                value: OwnValue::of(alloc, value)?,
+            };
+        }
+        Ok(())
+    }
 }
 
 // The registers of a node, by their keys.
@@ -56,7 +71,7 @@ impl NodeKeys {
         self.keys.get(key)
     }
 
-    // Keeps the write, unless one with a greater id came before it.
+    // Keeps the write, unless one with a greater id came before it. Copies only what it keeps.
     pub fn write(
         &mut self,
         alloc: Global,
@@ -67,12 +82,15 @@ impl NodeKeys {
         ensures ok { OnOk result (self.new ≡ key_written self.old key.now id (value_of value.entry)) }
         ensures err { OnErr result (self.new ≡ self.old) }
     {
+        if let Some(last) = self.keys.get_mut(key) {
+            return last.overwrite(alloc, id, value);
+        }
         let written = Written {
             writer: id,
             value: OwnValue::of(alloc, value)?,
         };
-        let key = String::from_str(alloc, key)?;
-        keep(&mut self.keys, key, written)
+        self.keys.insert(String::from_str(alloc, key)?, written)?;
+        Ok(())
     }
 
     // Adds the registers behind the rows, by their keys.
@@ -86,32 +104,6 @@ impl NodeKeys {
             ≡ rows_seen rows.old.items ++ tagged node (fin.entries self.now)) }
     {
         push_all(alloc, &self.keys, node, rows)
-    }
-}
-
-// Puts the write at its key, unless one with a greater id stands there.
-#[tactic(auto, using(crate::proofs::KeyEntries::key_entries))]
-fn keep(
-    keys: &mut BTreeMap<String, Written>,
-    key: String,
-    written: Written,
-) -> Result<(), AllocError>
-    ensures ok { OnOk result (keys_of keys.new.entries
-        ≡ key_written (keys_of keys.old.entries) (string_bytes key) written.writer (own_value_of written.value)) }
-    ensures err { OnErr result (keys.new.entries ≡ keys.old.entries) }
-{
-    match keys.entry(key) {
-        Ok(Entry::Occupied(mut last)) => {
-            if last.get().writer.is_before(written.writer) {
-                last.insert(written);
-            }
-            Ok(())
-        }
-        Ok(Entry::Vacant(place)) => {
-            place.insert(written);
-            Ok(())
-        }
-        Err(_) => Err(AllocError),
     }
 }
 
