@@ -18,7 +18,7 @@ use Rattle.tree_log.specs.declared.moves.TreeMove.{TreeMove}
 use Rattle.tree_log.specs.Log.{AreMovesIn}
 use Rattle.tree_log.specs.Merge.{put_in, merged}
 use Rattle.tree_log.specs.Moves.{after_moves, Rises, with_child, has_place, RefersBack, AllReferBack, IsFresh, inserted, Log, places_now}
-use Rattle.tree_log.specs.Open.{IsOpen, late_in, makes}
+use Rattle.tree_log.specs.Open.{IsOpen, is_child, late_in, makes}
 use Rattle.tree_log.proofs.LogLaws.{nodes_after, or_assoc, or_false, true_false, all_after, all_put, any_put, known_early, wider_put, fits_merged, joins_more, rises_put, fresh_put, known_done_all, all_merged}
 use Rattle.tree_log.proofs.SortLaws.{placed_put, inserted_merged, insertion_sorts, one_order}
 
@@ -239,3 +239,12 @@ module _ (log : Log) (entries : Entries) (ms : List TreeMove) (tree : IsTree log
         (λ q e. sym (whole_nodes log (late_in entries) tree fits rising o.rises o.fresh o.refer q) ∙ e) ms refer;
     all = refl;
   }
+
+  -- what is there once they are taken in
+  pub there_after : (fs : Entries) → IsOpen log fs → late_in fs ≡ inserted (late_in entries) ms → (q : OpId)
+      → has_place (after_moves log.base (inserted log.moves (late_in fs))) q ≡ (has_place (after_moves log.base (inserted log.moves (late_in entries))) q || is_child q ms)
+  there_after fs k all q =
+      let known = has_place (places_now log) in
+      whole_nodes log (late_in fs) tree fits rising k.rises k.fresh k.refer q
+      ∙ ap (λ ts. nodes_after known ts q) (all ∙ inserted_merged (late_in entries) ms o.rises rises parts.1) ∙ nodes_merged known (late_in entries) ms q
+      ∙ ap (λ b. b || is_child q ms) (sym (whole_nodes log (late_in entries) tree fits rising o.rises o.fresh o.refer q))

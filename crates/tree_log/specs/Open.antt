@@ -1,6 +1,6 @@
 -- Moves that were taken in and are still to be done.
 use Rattle.std.specs.Prelude.{◌≡◌, Bool, ◌&&◌, List, map, refl}
-use Rattle.std.specs.List.{AllByRecursion}
+use Rattle.std.specs.List.{AllByRecursion, list_any}
 use Rattle.std.specs.Coded.{Coded, code_by, coded×, coded_list}
 use Rattle.op_ids.specs.declared.OpId.{OpId}
 use Rattle.op_ids.specs.Order.{id_eq}
@@ -19,6 +19,10 @@ whole o = record { base = o.log.base; moves = inserted o.log.moves o.late }
 -- the move makes the node: its child has its own id
 abbrev pub makes : OpId → TreeMove → Bool
 makes node t = id_eq node t.id && id_eq node t.child
+
+-- one of the moves has it as its child
+abbrev pub is_child : OpId → List TreeMove → Bool
+is_child node moves = list_any (λ t. id_eq node t.child) moves
 
 abbrev pub open_code : Coded Open
 open_code = code_by (Log × List TreeMove) (coded× log_code (coded_list move_code)) (λ o. (o.log, o.late)) (λ p. record { log = p.0; late = p.1 }) (λ _. refl)

@@ -1,9 +1,9 @@
 // Moves that are still to be done.
-ghost use Rattle.std.specs.Prelude.{◌≡◌, ◌+◌, ◌*◌, OnOk, IfOk, length, []};
+ghost use Rattle.std.specs.Prelude.{◌≡◌, ◌+◌, ◌*◌, ◌||◌, OnOk, IfOk, length, []};
 ghost use Rattle.std.specs.List.{AllByRecursion, list_any};
 ghost use Rattle.tree_log.specs.declared.moves.TreeMove.{TreeMove};
 ghost use Rattle.tree_log.specs.Moves.{inserted, Rises, IsFresh, AllReferBack, has_place, places_now, later_count, Worked};
-ghost use Rattle.tree_log.specs.Open.{whole, late_in, makes};
+ghost use Rattle.tree_log.specs.Open.{whole, late_in, is_child, makes};
 
 use crate::log::TreeLog;
 use crate::moves::TreeMove;
@@ -68,6 +68,8 @@ impl OpenLog {
         ensures log { self.new.log ≡ self.old.log }
         ensures late { OnOk result (self.new.late ≡ inserted self.old.late moves.now) }
         ensures whole { OnOk result ((whole self.new).moves ≡ inserted (whole self.old).moves moves.now) }
+        ensures there { OnOk result ((node : OpId) → has_place (places_now (whole self.new)) node
+            ≡ (has_place (places_now (whole self.old)) node || is_child node moves.now)) }
     {
         // A look-up tells the proof that the log's own moves refer to nodes that are there.
         let _ = self.log.parents();
