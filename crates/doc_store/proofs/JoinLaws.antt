@@ -61,7 +61,7 @@ elements_next m t id (put_key node key value) h k = h k
 elements_next m t id (type_text node at characters) h k = h k
 elements_next m t id (erase_text node first count) h k = h k
 
-has_rows_after : (c : Contents) (u : State) (list : List Atom) → HasRows c u → HasRows (all_late c list) (all_done u list)
+pub has_rows_after : (c : Contents) (u : State) (list : List Atom) → HasRows c u → HasRows (all_late c list) (all_done u list)
 has_rows_after c u [] h = h
 has_rows_after c u (a ∷ list) h =
     has_rows_after (late c a) (done_one u a) list
@@ -105,7 +105,7 @@ may_type u c node id at cs k f r n =
     subst (λ m. MayType m node id at (length cs)) (sym k.texts)
     (record { new = new_ids u node id at cs n; no_head = own_no_root id w.1; hangs = hangs 32 u.texts node id at f.operation.1 there r.smaller.1.0; in_range = in_range })
 
-may_be_done : (u : State) (c : Contents) (id : OpId) (o : Operation) → HasRows c u → IsFormed (record { id = id; operation = o }) → AllRight (named u o) id → AllByRecursion (λ b. HasNoRow u b.id) (apart id o) → MayBeDone c id o
+pub may_be_done : (u : State) (c : Contents) (id : OpId) (o : Operation) → HasRows c u → IsFormed (record { id = id; operation = o }) → AllRight (named u o) id → AllByRecursion (λ b. HasNoRow u b.id) (apart id o) → MayBeDone c id o
 may_be_done u c id (new_node parent at) k f r n =
     let there = both_true _ _ (both_true _ _ r.there).1 in
     may_hang 32 u.positions c.positions parent id at k.positions f.operation.1 f.ids.0.some (n.0.positions parent) there.0 r.smaller.1.0

@@ -8,3 +8,4 @@ pub mod ViewLaws
 pub mod PlanLaws
 pub mod ForgetLaws
 pub mod FreshLaws
+pub mod TakeLaws

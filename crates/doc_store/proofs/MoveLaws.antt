@@ -83,7 +83,7 @@ rises (a ∷ list) r = rise_kind a.id a.operation (moves_of list) (all_ids (λ i
 pub moves_rise : (ops : List Atom) → Rises (parts_of ops) → moves.Rises (moves_of ops)
 moves_rise ops r = subst moves.Rises (moves_of-parts ops) (rises (parts_of ops) r)
 
-fresh_among : (m : Table) (held : List TreeMove) (id : OpId) → HavePositions m held → ((owner : OpId) → get m (owner, id) ≡ None) → moves.IsFresh held id
+pub fresh_among : (m : Table) (held : List TreeMove) (id : OpId) → HavePositions m held → ((owner : OpId) → get m (owner, id) ≡ None) → moves.IsFresh held id
 fresh_among m [] id h u = tt
 fresh_among m (t ∷ held) id h u = (
   elim (same_or_apart t.id id) as (λ _. id_eq t.id id ≡ false) [
@@ -100,7 +100,7 @@ moves_fresh m held ops h u =
 
 -- ---- they refer back
 
-abbrev AreThere : Places → (OpId → Bool) → Type 0
+abbrev pub AreThere : Places → (OpId → Bool) → Type 0
 AreThere m nodes = (q : OpId) → is_some (get m q) ≡ true → nodes q ≡ true
 
 more_there : (m : Places) (nodes : OpId → Bool) (child : OpId) (p : Place) → AreThere m nodes → AreThere (insert m child p) (with_child nodes child)
@@ -213,7 +213,7 @@ nodes_new u (a ∷ list) g = (new_kind u a.id a.operation g.0.below, nodes_new (
 
 -- ---- in their places
 
-one_more : (ts : List TreeMove) (x : Atom) (xs : List Atom) → inserted (inserted ts (moves_of (x ∷ []))) (moves_of xs) ≡ inserted ts (moves_of (x ∷ xs))
+pub one_more : (ts : List TreeMove) (x : Atom) (xs : List Atom) → inserted (inserted ts (moves_of (x ∷ []))) (moves_of xs) ≡ inserted ts (moves_of (x ∷ xs))
 one_more ts x xs =
     elim (move_by x.id x.operation) as (λ o. inserted (inserted ts (cons_option o [])) (moves_of xs) ≡ inserted ts (cons_option o (moves_of xs))) [ None ↦ refl | Some t ↦ refl ]
 

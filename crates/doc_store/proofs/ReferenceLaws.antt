@@ -64,7 +64,7 @@ rows_typed before now old new node id at cs h r owner q =
     typed_are now node id at cs (owner, q) ∙ ap (λ b. b || run) (h owner q) ∙ or_assoc (is_some (get before (owner, q))) (contains row_cmp old (owner, q)) run
     ∙ ap (λ b. is_some (get before (owner, q)) || b) (sym (r (owner, q)))
 
-some_moved : (m : Places) (child : OpId) (p : Place) → is_some (get m child) ≡ true → (q : OpId) → is_some (get (moved m child p) q) ≡ is_some (get m q)
+pub some_moved : (m : Places) (child : OpId) (p : Place) → is_some (get m child) ≡ true → (q : OpId) → is_some (get (moved m child p) q) ≡ is_some (get m q)
 some_moved m child p c q =
     elim (is_above m child p.parent) as (λ b. is_some (get (cond b m (insert m child p)) q) ≡ is_some (get m q)) [
       | true ↦ refl

@@ -40,7 +40,7 @@ pub record Doing (start : Contents) (all : List Atom) (before : Work) (now : Con
 pub doing_none : (start : Contents) (all : List Atom) (before : Work) (made : List TreeMove) → made ≡ [] → AllMayBeDone start all → Doing start all before start made before all
 doing_none start all before made none can = record { rows = refl; moves = ap (λ ts. ts ++ moves_of all) none; can = can; same = refl; decoded = refl; rose = omega arith; bound = omega arith }
 
-all_late-append : (c : Contents) (xs ys : List Atom) → all_late c (xs ++ ys) ≡ all_late (all_late c xs) ys
+pub all_late-append : (c : Contents) (xs ys : List Atom) → all_late c (xs ++ ys) ≡ all_late (all_late c xs) ys
 all_late-append c [] ys = refl
 all_late-append c (x ∷ xs) ys = all_late-append (late c x) xs ys
 
@@ -83,11 +83,11 @@ pub record Reading (s : State) (all : List Atom) (before : Work) (Known : State 
   pub rose : before.decoded ≤ work.decoded
   pub bound : work.decoded + length left ≤ before.decoded + length all
 
-nil_from_first : {A : Type 0} (xs : List A) → slice_get xs 0 ≡ None → xs ≡ []
+pub nil_from_first : {A : Type 0} (xs : List A) → slice_get xs 0 ≡ None → xs ≡ []
 nil_from_first [] e = refl
 nil_from_first (x ∷ xs) e = cc
 
-first_more : (place : ℕ) (ids : List OpId) (id : OpId) (more : List _) → slice_get ids 0 ≡ Some id → slice_get (map (refers_wrongly place) ids ++ more) 0 ≡ Some (refers_wrongly place id)
+pub first_more : (place : ℕ) (ids : List OpId) (id : OpId) (more : List _) → slice_get ids 0 ≡ Some id → slice_get (map (refers_wrongly place) ids ++ more) 0 ≡ Some (refers_wrongly place id)
 first_more place [] id more e = cc
 first_more place (i ∷ ids) id more e = (let same : i ≡ id = cc in ap (λ x. Some (refers_wrongly place x)) same)
 

@@ -1,5 +1,5 @@
 -- Operations that refer wrongly.
-use Rattle.std.specs.Prelude.{◌≡◌, ℕ, ◌^◌, ◌-◌, ◌||◌, ◌&&◌, not, min, Bool, Option, Some, None, is_some, List, [], map, filter, slice_get}
+use Rattle.std.specs.Prelude.{◌≡◌, ℕ, ◌^◌, ◌-◌, ◌||◌, ◌&&◌, not, min, Bool, Option, Some, None, Result, Ok, Err, is_some, List, [], map, filter, slice_get}
 use Rattle.std.specs.List.{list_any}
 use Rattle.std.specs.FinMap.{FinMap, get}
 use Rattle.std.specs.BTreeSet.{BTreeSet, contains}
@@ -12,7 +12,11 @@ use Rattle.model.specs.State.{State, Atom, RowKey, row_cmp, after, apart, run_of
 use Rattle.op_grammar.specs.Operations.{operation_of}
 use Rattle.op_grammar.specs.declared.operation.OpRef.{OpRef}
 use Rattle.doc_store.specs.declared.references.BadRef.{BadRef}
+use Rattle.doc_store.specs.Documents.{Joins}
+use Rattle.doc_store.specs.Kept.{Drafted, Kept, document_of, state_of}
 use Rattle.doc_store.specs.declared.made.Made.{Made}
+use Rattle.doc_store.specs.declared.references.TakeFault.{TakeFault}
+use Rattle.doc_store.specs.declared.references.TakeFault.TheVariants.{NoMemory, Wrong}
 
 -- The first wrong reference of the operations, each after those before it, or none. 2^32 - 1 stands for any greater place.
 abbrev pub IsFirstWrong : State → List Atom → Option BadRef → Type 0
@@ -22,6 +26,12 @@ IsFirstWrong s ops (Some b) = (place : ℕ) × (slice_get (wrong_references s 0 
 -- the first of these ids, each with whether it is there, that isn't there or isn't smaller than the operation's
 abbrev pub first_wrong_of : OpId → List (OpId × Bool) → Option OpId
 first_wrong_of id names = slice_get (map (λ n. n.0) (filter (λ n. not (n.1 && id_lt n.0 id)) names)) 0
+
+-- Operations that come to a document and refer right go to their places. Otherwise the first wrong reference is told.
+abbrev pub TakesRight : Kept → List Atom → Result Drafted TakeFault → Type 0
+TakesRight d ops (Ok now) = (wrong_references (state_of d) 0 ops ≡ []) × Joins d ops (document_of now)
+TakesRight d ops (Err (Wrong b)) = IsFirstWrong (state_of d) ops (Some b)
+TakesRight d ops (Err NoMemory) = Unit {0}
 
 -- ---- rows that operations make
 

@@ -7,12 +7,12 @@ ghost use Rattle.tree_log.specs.Moves as moves;
 ghost use Rattle.tree_log.specs.Moves.{later_count, Worked};
 ghost use Rattle.doc_store.specs.Documents.{DecodesAll, DecodesSome, HasNoRow, IsFormed, Joins, parts_of};
 ghost use Rattle.doc_store.specs.Kept.{document_of, state_of};
-ghost use Rattle.doc_store.specs.References.{IsFirstWrong};
+ghost use Rattle.doc_store.specs.References.{IsFirstWrong, TakesRight};
 
 use crate::doc::Doc;
-use crate::kept_rows::KeptRows;
+use crate::kept_rows::{KeptRows, move_by};
 use crate::made::Made;
-use crate::references::BadRef;
+use crate::references::{BadRef, TakeFault};
 use op_grammar::OpSource;
 use outside::Tally;
 use std::alloc::{AllocError, Global};
@@ -114,6 +114,43 @@ impl Draft {
         let moves = rows.do_all(ops, tally)?;
         log.take(&moves)?;
         Ok(Draft { alloc, rows, log })
+    }
+
+    /// The document with these operations, each in its place by its id, or the first that refers wrongly in the document with those
+    /// before it. No move is done. After a refusal the document is gone.
+    ///
+    /// Each operation has the form and the bounds of one. The ids of their parts rise, and no row of the document has one of
+    /// them. Counts each operation that it reads.
+    pub fn take<'a, S: OpSource<'a> + Drop>(
+        self,
+        ops: S,
+        tally: &mut Tally,
+    ) -> Result<Draft, TakeFault>
+        requires formed { AllByRecursion IsFormed (S.left ops) }
+        requires rise { Rises (parts_of (S.left ops)) }
+        requires fresh { AllByRecursion (λ a. HasNoRow (state_of (document_of self)) a.id) (parts_of (S.left ops)) }
+        ensures takes { TakesRight (document_of self) (S.left ops) result }
+        ensures undone { IfOk result (λ d. d.moves.log ≡ self.moves.log) }
+        ensures tally { DecodesSome tally.old tally.new (length (S.left ops)) }
+    {
+        let mut draft = self;
+        let mut ops = ops;
+        let none = Made::new(draft.alloc);
+        let mut place = 0u32;
+        while let Some((id, op)) = ops.next_op(tally) {
+            if let Some(wrong) = draft.wrong_id(&none, id, op) {
+                return Err(TakeFault::Wrong(BadRef {
+                    op: place,
+                    id: wrong,
+                }));
+            }
+            draft.rows.do_op(id, op)?;
+            if let Some(step) = move_by(id, op) {
+                draft.log.take(&[step])?;
+            }
+            place = place.saturating_add(1);
+        }
+        Ok(draft)
     }
 
     /// The document, its moves done in the order of their ids. Counts at most twice the moves that were done before and come after

@@ -106,7 +106,7 @@ impl KeptRows {
     }
 
     // What the operation makes of the tables. After a refusal nothing is known of them.
-    fn do_op(&mut self, id: OpId, op: OpRef<'_>) -> Result<(), AllocError>
+    pub fn do_op(&mut self, id: OpId, op: OpRef<'_>) -> Result<(), AllocError>
         requires { MayBeDone self.old id (operation_of op) }
         ensures { OnOk result (self.new ≡ all_late self.old (apart id (operation_of op.entry))) }
     {
@@ -159,7 +159,7 @@ impl KeptRows {
 }
 
 // The move that an operation is, if it is one.
-fn move_by(id: OpId, op: OpRef<'_>) -> Option<TreeMove>
+pub fn move_by(id: OpId, op: OpRef<'_>) -> Option<TreeMove>
     ensures { result ≡ move_by id (operation_of op.entry) }
 {
     match op {

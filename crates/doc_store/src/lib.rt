@@ -26,7 +26,7 @@ pub use fugue_tree::PlaceRow;
 pub use keys::{ItemList, KeyList, KeyValue};
 pub use lww_map::RegisterRow;
 pub use move_list::ElementRow;
-pub use references::BadRef;
+pub use references::{BadRef, TakeFault};
 pub use tables::{ElementRows, NodeRows, PlaceRows, RegisterRows, Tables, TextRows};
 pub use tree_move::NodeRow;
 pub use view::{View, ViewNode};
