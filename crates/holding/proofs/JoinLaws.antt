@@ -11,7 +11,9 @@ use Rattle.model.specs.Held as model
 use Rattle.model.specs.Held.{Held, held_behind, refers_wrongly, row_behind, unfit, wrong_references}
 use Rattle.model.specs.Ledger.{add}
 use Rattle.model.specs.State.{State, atoms, by_ids, change_atoms, empty_state}
+use Rattle.model_laws.proofs.ListLaws.{nil_from_append, nil_from_none}
 use Rattle.arrival_laws.proofs.AddLaws.{to_order}
+use Rattle.arrival_laws.proofs.StableLaws.{late_time_none, nil_second}
 use Rattle.tree_log.specs.Moves.{Log, Rises, inserted, IsFresh}
 use Rattle.tree_log.specs.Steps.{moves_of}
 use Rattle.tree_log.specs.declared.moves.TreeMove.{TreeMove}
@@ -131,3 +133,12 @@ pub none_told : (h : Holding) (n : ℕ) (b : Base) (kept : List Change) (c : Cha
 none_told h n b kept c holds none right =
     let ops = by_ids c.time c.member 0 c.operations in
     told_else n (held_behind b kept) c None none (sym (ap (λ (s : State). slice_get (wrong_references s 0 ops) 0) (sym holds.document.state) ∙ ap (λ (ms : List model.Misfit). slice_get ms 0) right))
+
+-- A change that its head tells nothing against is later than its member's last.
+pub later_by_head : (n : ℕ) (past : Held) (c : Change) → None ≡ slice_get (of_head n past c) 0 → (past.row c.member).last < c.time
+later_by_head n past c none =
+    let missing = missing_causes n past c in
+    let late = late_times n past c in
+    let forgotten = forgotten_causes n past c in
+    let nil = nil_from_append (missing ++ late ++ forgotten) (late_causes n past c) (nil_from_none (of_head n past c) (sym none)) in
+    late_time_none past c (nil_second missing late (nil_from_append (missing ++ late) forgotten nil))

@@ -6,3 +6,4 @@ pub mod OperationLaws
 pub mod GrowLaws
 pub mod HoldLaws
 pub mod JoinLaws
+pub mod TakeLaws

@@ -32,8 +32,11 @@ pub record ComesNext (b : Base) (kept : List Change) (c : Change) : Type 0 where
   pub next : c.number ≡ (row_behind b kept c.member).count + 1
   pub later : (row_behind b kept c.member).last < c.time
 
+pub later_is_last : (b : Base) (kept : List Change) (c : Change) → AreInTimeOrder kept → (row_behind b kept c.member).last < c.time → IsLast kept c
+later_is_last b kept c in_order later = is_last kept c (order_from kept in_order) (later_than_last b c.member (last_change kept c.member) c.time later)
+
 pub is_latest : (b : Base) (kept : List Change) (c : Change) → ComesNext b kept c → IsLast kept c
-is_latest b kept c comes = is_last kept c (order_from kept comes.in_order) (later_than_last b c.member (last_change kept c.member) c.time comes.later)
+is_latest b kept c comes = later_is_last b kept c comes.in_order comes.later
 
 -- With it in its place they are in order.
 pub added_in_order : (b : Base) (kept : List Change) (c : Change) → ComesNext b kept c → AreInTimeOrder (add kept c)

@@ -12,17 +12,51 @@ ghost use Rattle.tree_log.specs.Moves.{Worked};
 ghost use Rattle.doc_store.specs.Documents.{DecodesAll, DecodesSome, IsDocument};
 ghost use Rattle.replica.specs.FaultText.{misfit_of};
 ghost use Rattle.holding.specs.Holds.{Holds, MayJoin};
+ghost use Rattle.holding.specs.Takes.{IsNext, Takes, fault_by, with_change};
+ghost use Rattle.holding.specs.declared.holding.JoinFault.TheVariants.{NoMemory as OutOfMemory};
 ghost use Rattle.holding.specs.Misfits.{IsFirst, forgotten_causes, late_causes, late_times, missing_causes, of_head};
 ghost use Rattle.holding.specs.Times.{time_at};
 
 use crate::times::Times;
-use doc_store::{Doc, Draft};
+use doc_store::{Doc, Draft, TakeFault};
 use lazy_blocks::Block;
+use op_grammar::Head;
 use outside::Tally;
 use replica::Misfit;
 use stability::{Fronts, MemberRow};
 use std::alloc::{AllocError, Global};
 use version_vector::Vector;
+
+/// Why a change was not taken in.
+#[derive(Clone, Copy, Debug, PartialEq, Eq)]
+pub enum JoinFault {
+    /// It may not join: the first reason.
+    Unfit(Misfit),
+    /// Memory ran out.
+    NoMemory,
+}
+
+impl From<AllocError> for JoinFault {
+    ghost from_gives = { λ _ e. e ≡ OutOfMemory };
+
+    fn from(_e: AllocError) -> JoinFault {
+        JoinFault::NoMemory
+    }
+}
+
+impl From<TakeFault> for JoinFault {
+    ghost from_gives = { λ fault e. e ≡ fault_by fault };
+
+    fn from(fault: TakeFault) -> JoinFault {
+        match fault {
+            TakeFault::Wrong(wrong) => JoinFault::Unfit(Misfit::A4 {
+                op: wrong.op,
+                id: wrong.id,
+            }),
+            TakeFault::NoMemory => JoinFault::NoMemory,
+        }
+    }
+}
 
 /// What is held of a document of 1 to 32 members.
 ///
@@ -89,18 +123,31 @@ impl Holding {
     {
         let Holding {
             document,
-            mut fronts,
-            mut times,
+            fronts,
+            times,
         } = self;
-        let head = block.head();
         let document = document.apply(block.ops(), tally)?;
-        fronts.take(head);
-        times.push(head.member, head.time)?;
-        Ok(Holding {
+        Holding::with_change(document, fronts, times, block.head())
+    }
+
+    /// What is held with a change, the next of its member, in its place, or the first reason why it may not join, after which it is
+    /// gone. No move is done. Counts each operation that it reads.
+    pub fn take(self, block: &Block<'_>, tally: &mut Tally) -> Result<Holding, JoinFault>
+        requires { (n : ℕ) × (b : Base) × (kept : List Change) × Holds self n b kept × IsNext n b kept block.now }
+        ensures takes { (n : ℕ) (b : Base) (kept : List Change) → Holds self n b kept → IsNext n b kept block.now
+            → Takes n b kept block.now result }
+        ensures tally { DecodesSome tally.old tally.new (length block.now.operations) }
+    {
+        if let Some(misfit) = self.head_misfit(block) {
+            return Err(JoinFault::Unfit(misfit));
+        }
+        let Holding {
             document,
             fronts,
             times,
-        })
+        } = self;
+        let document = document.take(block.ops(), tally)?;
+        Ok(Holding::with_change(document, fronts, times, block.head())?)
     }
 
     /// The document, its moves done in the order of their ids. Counts at most these.
@@ -111,6 +158,27 @@ impl Holding {
             → Worked tally.old tally.new (sum_by move_count kept) }
     {
         self.document.settle(tally)
+    }
+
+    /// What is held of a document to which the change with this head has come.
+    fn with_change(
+        document: Draft,
+        mut fronts: Fronts,
+        mut times: Times,
+        head: &Head,
+    ) -> Result<Holding, AllocError>
+        requires row { head.now.member < length fronts }
+        requires causes { length head.now.causes ≡ length fronts }
+        requires list { head.now.member < length times }
+        ensures { IfOk result (λ h. h ≡ with_change document fronts times head.now) }
+    {
+        fronts.take(head);
+        times.push(head.member, head.time)?;
+        Ok(Holding {
+            document,
+            fronts,
+            times,
+        })
     }
 
     /// Why a change may not join as far as its head tells: A0 to A3.

@@ -7,4 +7,4 @@ mod holding;
 pub mod laws;
 mod times;
 
-pub use holding::Holding;
+pub use holding::{Holding, JoinFault};

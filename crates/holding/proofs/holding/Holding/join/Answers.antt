@@ -1,11 +1,14 @@
 use Rattle.std.proofs.Common.{◌≡◌, [], List, refl, sym, ap, subst, ◌∙◌, arith}
+use Rattle.std.proofs.lemmas.Result.{IfOk-weaker}
 use Rattle.std.specs.List.{AllByRecursion}
 use Rattle.model.specs.Held.{wrong_references}
 use Rattle.model.specs.State.{Atom, State, atoms, by_ids, change_atoms}
 use Rattle.model_laws.specs.Arrival.{Rises}
 use Rattle.doc_store.specs.Documents.{HasNoRow, IsFormed, Joins, parts_of}
 use Rattle.doc_store.specs.Kept.{document_of, state_of}
-use Rattle.holding.specs.declared.holding.Holding.{Holding}
+use Rattle.model.specs.Ledger.{add}
+use Rattle.holding.specs.Holds.{Holds}
+use Rattle.holding.specs.Takes.{with_change}
 use Rattle.op_grammar.specs.declared.head.Head.{Head}
 use Rattle.holding.proofs.HoldLaws.{many_causes, many_rows, within_rows, within_times}
 use Rattle.holding.proofs.JoinLaws.{holds_added}
@@ -33,17 +36,21 @@ apply-requires c κs =
       ),
     )
 
-pub take-requires-clause-member : goal.take-requires-clause-member
-take-requires-clause-member c = let (n, b, kept, holds, may) = c.requires in within_rows c.args.self n b kept c.args.block.now c.head-head.result.now holds may.is_change c.head-head.ensures
+pub with_change-requires-clause-row : goal.with_change-requires-clause-row
+with_change-requires-clause-row c = let (n, b, kept, holds, may) = c.requires in within_rows c.args.self n b kept c.args.block.now c.head.result.now holds may.is_change c.head.ensures
 
-pub take-requires-clause-causes : goal.take-requires-clause-causes
-take-requires-clause-causes c = let (n, b, kept, holds, may) = c.requires in many_causes n c.args.block.now c.head-head.result.now may.is_change c.head-head.ensures ∙ sym (many_rows c.args.self n b kept holds)
+pub with_change-requires-clause-causes : goal.with_change-requires-clause-causes
+with_change-requires-clause-causes c = let (n, b, kept, holds, may) = c.requires in many_causes n c.args.block.now c.head.result.now may.is_change c.head.ensures ∙ sym (many_rows c.args.self n b kept holds)
 
-pub push-requires : goal.push-requires
-push-requires c = let (n, b, kept, holds, may) = c.requires in within_times c.args.self n b kept c.head-head.result.now.member holds (omega (arith, may.is_change.member, ap (λ (x : Head). x.member) c.head-head.ensures))
+pub with_change-requires-clause-list : goal.with_change-requires-clause-list
+with_change-requires-clause-list c = let (n, b, kept, holds, may) = c.requires in within_times c.args.self n b kept c.head.result.now.member holds (omega (arith, may.is_change.member, ap (λ (x : Head). x.member) c.head.ensures))
 
 pub returns-clause-joins : goal.returns-clause-joins
 returns-clause-joins c = λ n b kept holds may.
-    let now : Holding = record { document = c.in_ok-document.document; fronts = c.take.new.self; times = c.push.new.self } in
-    holds_added c.args.self now n b kept c.args.block.now c.head-head.result.now holds may c.head-head.ensures c.take.ensures
-    (subst (λ (l : List Atom). Joins (document_of c.args.self.document) l (document_of c.in_ok-document.document)) c.ops.ensures c.in_ok-document.ensures.joins) c.in_ok-document.ensures.undone c.in_ok-push.ensures
+    let change = c.args.block.now in
+    let now = with_change c.in_ok-document.document c.args.self.fronts c.args.self.times c.head.result.now in
+    IfOk-weaker c.with_change.result (λ h. h ≡ now) (λ h. Holds h n b (add kept change))
+    (λ h is. subst (λ x. Holds x n b (add kept change)) (sym is)
+    (holds_added c.args.self now n b kept change c.head.result.now holds may c.head.ensures refl
+    (subst (λ (l : List Atom). Joins (document_of c.args.self.document) l (document_of c.in_ok-document.document)) c.ops.ensures c.in_ok-document.ensures.joins) c.in_ok-document.ensures.undone refl))
+    c.with_change.ensures
