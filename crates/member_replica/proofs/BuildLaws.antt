@@ -2,7 +2,6 @@
 use Rattle.std.proofs.Common.{◌≡◌, ℕ, ◌+◌, ◌≤◌, true, false, List, [], ◌∷◌, ◌++◌, length, take, drop, sym, ap, subst, ◌∙◌}
 use Rattle.std.specs.Prelude.{Option, Some, None, slice_get}
 use Rattle.std.specs.List.{AllByRecursion}
-use Rattle.std.specs.Option.{option_map}
 use Rattle.std.proofs.lemmas.List.{drop_all, drop_more, take-append-drop, take_all, take_more}
 use Rattle.std.proofs.lemmas.Option.{get_or_from_slice_get, slice_get_within}
 use Rattle.model.specs.Base.{base_of}
@@ -20,7 +19,9 @@ use Rattle.replica.specs.FaultText.{misfit_of}
 use Rattle.replica.specs.declared.fault.Misfit.{Misfit}
 use Rattle.holding.specs.Holds.{Holds, MayJoin}
 use Rattle.holding.specs.declared.holding.Holding.{Holding}
+use Rattle.holding.specs.Takes.{IsNext}
 use Rattle.holding.proofs.GrowLaws.{ledgers_may_grow}
+use Rattle.holding.proofs.TakeLaws.{later_ids_are_free}
 use Rattle.member_replica.specs.Replicas.{refused_of}
 use Rattle.member_replica.proofs.SoundLaws.{IsUntrimmed, each_next, front_is_sound, joins_if_fit, kept_rise, unfit_is}
 
@@ -71,8 +72,8 @@ pub change_at : (f : File) (i : ℕ) (c : Change) → IsUntrimmed f → slice_ge
 change_at f i c is at = (all_back (IsChange f.members) (take i f.kept) (c ∷ drop (i + 1) f.kept) (subst (AllByRecursion (IsChange f.members)) (split_at f.kept i c at) is.is_file.kept)).0
 
 -- One that is unfit is the first.
-pub refused_at : (f : File) (i : ℕ) (c : Change) (h : Holding) (m : Misfit) → IsBuilt f i h → slice_get f.kept i ≡ Some c → Some (misfit_of m) ≡ unfit_at f i c → unfit_in f ≡ Some (refused_of c.member c.number m)
-refused_at f i c h m built at e = rest_at f i c h (Some (misfit_of m)) built at (sym e)
+pub refused_at : (f : File) (i : ℕ) (c : Change) (h : Holding) (m : Misfit) → IsBuilt f i h → slice_get f.kept i ≡ Some c → unfit_at f i c ≡ Some (misfit_of m) → unfit_in f ≡ Some (refused_of c.member c.number m)
+refused_at f i c h m built at e = rest_at f i c h (Some (misfit_of m)) built at e
 
 -- ---- one more
 
@@ -87,6 +88,10 @@ pub may_join_at : (f : File) (i : ℕ) (c : Change) (h : Holding) → IsUntrimme
 may_join_at f i c h is built at fit =
     let front = take i f.kept in
     ledgers_may_grow f.members front c (front_is_sound f front (c ∷ drop (i + 1) f.kept) is (split_at f.kept i c at) built.joins) (change_at f i c is at) (joins_at f i c h is built at fit)
+
+pub is_next_at : (f : File) (i : ℕ) (c : Change) (h : Holding) → IsUntrimmed f → IsBuilt f i h → slice_get f.kept i ≡ Some c → IsNext f.members (base_of f.members [] 0) (take i f.kept) c
+is_next_at f i c h is built at =
+    record { is_change = change_at f i c is at; fresh = λ later. later_ids_are_free h f.members (take i f.kept) c built.holds later; joins = λ fit. may_join_at f i c h is built at fit }
 
 pub built_more : (f : File) (i : ℕ) (c : Change) (h now : Holding) → IsUntrimmed f → IsBuilt f i h → slice_get f.kept i ≡ Some c → unfit_at f i c ≡ None → Holds now f.members (base_of f.members [] 0) (add (take i f.kept) c) → IsBuilt f (i + 1) now
 built_more f i c h now is built at fit holds =
@@ -111,11 +116,3 @@ built_all f i h built past =
       built.rest ∙ ap (first_unfit n b (take i f.kept)) (drop_all i f.kept past),
       subst (Holds h n b) (take_all i f.kept past) built.holds,
     )
-
--- what of a misfit that was asked for says that there is none
-pub none_asked : (o : Option Misfit) (m : Option model.Misfit) → option_map misfit_of o ≡ m → o ≡ None → m ≡ None
-none_asked o m e none = sym e ∙ ap (option_map misfit_of) none
-
--- and that there is this
-pub some_asked : (o : Option Misfit) (m : Option model.Misfit) (x : Misfit) → option_map misfit_of o ≡ m → o ≡ Some x → Some (misfit_of x) ≡ m
-some_asked o m x e some = sym (ap (option_map misfit_of) some) ∙ e

@@ -10,10 +10,11 @@ ghost use Rattle.doc_store.specs.Documents.{DecodesSome, IsDocument};
 ghost use Rattle.doc_store.specs.Kept.{state_of};
 ghost use Rattle.member_replica.specs.Replicas.{Builds};
 ghost use Rattle.member_replica.specs.Work.{operations_in};
-ghost use Rattle.member_replica.specs.declared.built.BuildFault.TheVariants.{NoMemory as OutOfMemory};
+ghost use Rattle.member_replica.specs.declared.built.BuildFault.TheVariants.{NoMemory as OutOfMemory, Unfit};
 
 use doc_store::Doc;
-use holding::Holding;
+use holding::{Holding, JoinFault};
+use lazy_blocks::Block;
 use outside::Tally;
 use replica::{FileParts, Misfit};
 use std::alloc::{AllocError, Global};
@@ -79,15 +80,11 @@ impl<'a> Replica<'a> {
         let kept = parts.kept();
         'kept: for i in 0..kept.len() {
             let block = kept.at(i);
-            if let Some(misfit) = holding.misfit(block, tally)? {
-                let head = block.head();
-                return Err(BuildFault::Unfit {
-                    member: head.member,
-                    number: head.number,
-                    misfit,
-                });
-            }
-            holding = holding.join(block, tally)?;
+            holding = match holding.take(block, tally) {
+                Ok(holding) => holding,
+                Err(JoinFault::Unfit(misfit)) => return Err(refused(block, misfit)),
+                Err(JoinFault::NoMemory) => return Err(BuildFault::NoMemory),
+            };
         }
         Ok(Replica { parts, holding })
     }
@@ -99,5 +96,17 @@ impl<'a> Replica<'a> {
         ensures tally { Worked tally.old tally.new (sum_by move_count self.entry.kept) }
     {
         self.holding.settle(tally)
+    }
+}
+
+/// The fault of a file that keeps a change which may not join.
+fn refused(block: &Block<'_>, misfit: Misfit) -> BuildFault
+    ensures { result ≡ Unfit block.now.member block.now.number misfit }
+{
+    let head = block.head();
+    BuildFault::Unfit {
+        member: head.member,
+        number: head.number,
+        misfit,
     }
 }
