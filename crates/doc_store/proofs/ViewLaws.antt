@@ -14,9 +14,10 @@ use Rattle.op_ids.proofs.OrderLaws.{eq_by_cmp-id}
 use Rattle.model.specs.State.{State, Place, RowKey, row_cmp, Register, Written}
 use Rattle.model.specs.Walk.{walk}
 use Rattle.model.specs.View.{Entry, ViewNode, child_at, children, entry_of, is_at, listed, outline, shown, view, view_node}
-use Rattle.op_grammar.specs.Values.{own_value_of}
-use Rattle.op_grammar.specs.declared.value.OwnValue.{OwnValue}
-use Rattle.op_grammar.specs.declared.value.OwnValue.TheVariants as own
+use Rattle.op_grammar.specs.Values.{value_of}
+use Rattle.op_grammar.specs.declared.value.Value as lent
+use Rattle.op_grammar.specs.declared.value.Value.TheVariants as lent_as
+use Rattle.std.specs.Borrow.{Bor}
 use Rattle.tree_move.specs.Parents as rows
 use Rattle.tree_move.specs.declared.places.NodeRow.{NodeRow}
 use Rattle.lww_map.specs.declared.registers.RegisterRow.{RegisterRow}
@@ -66,15 +67,15 @@ taken_one f xs i d l = ap (filter_map f) (take_more xs i d l) ∙ filter_map-app
 
 -- ---- keys
 
-shown_seen : (row : RegisterRow) (es : List Entry) → map entry_seen (cons_option (kept_key row) []) ++ es ≡ cons_option (shown row.key (own_value_of row.value)) es
+shown_seen : (row : RegisterRow) (es : List Entry) → map entry_seen (cons_option (kept_key row) []) ++ es ≡ cons_option (shown row.key.now (value_of row.value)) es
 shown_seen row es = by_value row.key row.value
   where
-    by_value : (key : List ℕ) (v : OwnValue) → map entry_seen (cons_option (kept_value key v) []) ++ es ≡ cons_option (shown key (own_value_of v)) es
-    by_value key own.Null = refl
-    by_value key (own.Bool b) = refl
-    by_value key (own.Int n) = refl
-    by_value key (own.Text t) = refl
-    by_value key (own.Bytes b) = refl
+    by_value : (key : Bor (List ℕ)) (v : lent.Value) → map entry_seen (cons_option (kept_value key v) []) ++ es ≡ cons_option (shown key.now (value_of v)) es
+    by_value key lent_as.Null = refl
+    by_value key (lent_as.Bool b) = refl
+    by_value key (lent_as.Int n) = refl
+    by_value key (lent_as.Text t) = refl
+    by_value key (lent_as.Bytes b) = refl
 
 cons_parts : {A : Type 0} (o : Option A) (xs : List A) → cons_option o xs ≡ cons_option o [] ++ xs
 cons_parts None xs = refl

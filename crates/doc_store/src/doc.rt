@@ -26,13 +26,13 @@ use tree_move::Parents;
 ///
 /// Contracts say what is true of it for every state and operations that it may be said to be made of (`IsDocument`).
 #[derive(Drop)]
-pub struct Doc {
+pub struct Doc<'a> {
     pub(crate) alloc: Global,
-    pub(crate) rows: KeptRows,
+    pub(crate) rows: KeptRows<'a>,
     pub(crate) log: TreeLog,
 }
 
-impl Model for Doc {
+impl<'a> Model for Doc<'a> {
     ghost use Rattle.doc_store.specs.Kept.{HavePositions, Kept, kept_code};
 
     ghost Value = { Kept };
@@ -44,9 +44,9 @@ impl Model for Doc {
     ghost invariant = { λ d. HavePositions d.rows.positions d.log.moves };
 }
 
-impl Doc {
+impl<'a> Doc<'a> {
     /// The empty document.
-    pub fn new(alloc: Global) -> Doc
+    pub fn new(alloc: Global) -> Doc<'a>
         ensures { IsDocument result empty_state [] }
     {
         Doc {
@@ -57,7 +57,7 @@ impl Doc {
     }
 
     /// All tables.
-    pub fn tables(&self) -> Result<Tables, AllocError>
+    pub fn tables(&self) -> Result<Tables<'a>, AllocError>
         ensures nodes { IfOk result (λ t.
             t.nodes ≡ map node_row (fin.entries (state_of self.now).nodes)) }
         ensures positions { IfOk result (λ t.
@@ -84,7 +84,7 @@ impl Doc {
     /// The nodes from the root down, each before those below it, and what each shows.
     ///
     /// A document with a node more than 2^32 - 1 deep is refused as one for which memory is wanting.
-    pub fn view(&self) -> Result<View, AllocError>
+    pub fn view(&self) -> Result<View<'a>, AllocError>
         ensures { IfOk result (λ v. v ≡ view (state_of self.now)) }
     {
         let (index, count) = self.child_index()?;

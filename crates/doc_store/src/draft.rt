@@ -24,13 +24,13 @@ use tree_log::OpenLog;
 ///
 /// Contracts say what is true of it for every state and operations of which it will be the document (`document_of`).
 #[derive(Drop)]
-pub struct Draft {
+pub struct Draft<'a> {
     alloc: Global,
-    pub(crate) rows: KeptRows,
+    pub(crate) rows: KeptRows<'a>,
     pub(crate) log: OpenLog,
 }
 
-impl Model for Draft {
+impl<'a> Model for Draft<'a> {
     ghost use Rattle.tree_log.specs.Open.{whole};
     ghost use Rattle.doc_store.specs.Kept.{Drafted, HavePositions, drafted_code};
 
@@ -43,10 +43,10 @@ impl Model for Draft {
     ghost invariant = { λ d. HavePositions d.rows.positions (whole d.log).moves };
 }
 
-impl Draft {
+impl<'a> Draft<'a> {
     /// The document, to which operations may come. Takes no memory.
-    pub fn of(doc: Doc) -> Draft
-        ensures { result ≡ record { contents = doc.contents; moves = record { log = doc.log; late = [] } } }
+    pub fn of(doc: Doc<'a>) -> Draft<'a>
+        ensures { result ≡ record { contents = doc.entry.contents; moves = record { log = doc.entry.log; late = [] } } }
     {
         let Doc { alloc, rows, log } = doc;
         Draft {
@@ -60,7 +60,7 @@ impl Draft {
     ///
     /// A reference is wrong where no such row is there, or its id isn't smaller than the operation's. Each operation has the
     /// form and the bounds of one. Counts each operation that it reads.
-    pub fn refs_known<'a, S: OpSource<'a> + Drop>(
+    pub fn refs_known<'b, S: OpSource<'b> + Drop>(
         &self,
         ops: S,
         tally: &mut Tally,
@@ -92,18 +92,18 @@ impl Draft {
     ///
     /// Each operation has the form and the bounds of one, and none refers wrongly in the document with those before it. The
     /// ids of their parts rise, and no row of the document has one of them. Counts each operation.
-    pub fn apply<'a, S: OpSource<'a> + Drop>(
+    pub fn apply<S: OpSource<'a> + Drop>(
         self,
         ops: S,
         tally: &mut Tally,
-    ) -> Result<Draft, AllocError>
+    ) -> Result<Draft<'a>, AllocError>
         requires formed { AllByRecursion IsFormed (S.left ops) }
         requires refer { wrong_references (state_of (document_of self)) 0 (S.left ops) ≡ [] }
         requires rise { Rises (parts_of (S.left ops)) }
         requires fresh { AllByRecursion (λ a. HasNoRow (state_of (document_of self)) a.id) (parts_of (S.left ops)) }
-        ensures joins { IfOk result (λ d. Joins (document_of self) (S.left ops) (document_of d)) }
+        ensures joins { IfOk result (λ d. Joins (document_of self.entry) (S.left ops) (document_of d)) }
         ensures decoded { DecodesAll tally.old tally.new (S.left ops) result }
-        ensures undone { IfOk result (λ d. d.moves.log ≡ self.moves.log) }
+        ensures undone { IfOk result (λ d. d.moves.log ≡ self.entry.moves.log) }
         ensures moves { tally.new.moves ≡ tally.old.moves }
     {
         let Draft {
@@ -121,16 +121,16 @@ impl Draft {
     ///
     /// Each operation has the form and the bounds of one. The ids of their parts rise, and no row of the document has one of
     /// them. Counts each operation that it reads.
-    pub fn take<'a, S: OpSource<'a> + Drop>(
+    pub fn take<S: OpSource<'a> + Drop>(
         self,
         ops: S,
         tally: &mut Tally,
-    ) -> Result<Draft, TakeFault>
+    ) -> Result<Draft<'a>, TakeFault>
         requires formed { AllByRecursion IsFormed (S.left ops) }
         requires rise { Rises (parts_of (S.left ops)) }
         requires fresh { AllByRecursion (λ a. HasNoRow (state_of (document_of self)) a.id) (parts_of (S.left ops)) }
-        ensures takes { TakesRight (document_of self) (S.left ops) result }
-        ensures undone { IfOk result (λ d. d.moves.log ≡ self.moves.log) }
+        ensures takes { TakesRight (document_of self.entry) (S.left ops) result }
+        ensures undone { IfOk result (λ d. d.moves.log ≡ self.entry.moves.log) }
         ensures tally { DecodesSome tally.old tally.new (length (S.left ops)) }
     {
         let mut draft = self;
@@ -155,11 +155,11 @@ impl Draft {
 
     /// The document, its moves done in the order of their ids. Counts at most twice the moves that were done before and come after
     /// one of the others, and these.
-    pub fn settle(self, tally: &mut Tally) -> Result<Doc, AllocError>
-        ensures document { IfOk result (λ d. d ≡ document_of self) }
-        ensures rising { moves.Rises self.moves.late }
+    pub fn settle(self, tally: &mut Tally) -> Result<Doc<'a>, AllocError>
+        ensures document { IfOk result (λ d. d ≡ document_of self.entry) }
+        ensures rising { moves.Rises self.entry.moves.late }
         ensures tally { Worked tally.old tally.new
-            (2 * later_count self.moves.log.moves self.moves.late + length self.moves.late) }
+            (2 * later_count self.entry.moves.log.moves self.entry.moves.late + length self.entry.moves.late) }
     {
         let Draft { alloc, rows, log } = self;
         let log = log.settle(tally)?;

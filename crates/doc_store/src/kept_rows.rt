@@ -26,15 +26,15 @@ use std::marker::Model;
 use tree_log::TreeMove;
 
 #[derive(Drop)]
-pub struct KeptRows {
+pub struct KeptRows<'a> {
     alloc: Global,
     pub positions: Trees,
-    pub registers: Registers,
+    pub registers: Registers<'a>,
     pub texts: Texts,
     pub lists: Lists,
 }
 
-impl Model for KeptRows {
+impl<'a> Model for KeptRows<'a> {
     ghost use Rattle.model_laws.specs.Arrival.{Contents};
     ghost use Rattle.doc_store.specs.Kept.{contents_code, contents_of};
 
@@ -45,9 +45,9 @@ impl Model for KeptRows {
     ghost view = { λ k. contents_of k.positions k.registers k.texts k.lists };
 }
 
-impl KeptRows {
+impl<'a> KeptRows<'a> {
     // Empty tables.
-    pub fn new(alloc: Global) -> KeptRows
+    pub fn new(alloc: Global) -> KeptRows<'a>
         ensures { result ≡ contents empty_state }
     {
         KeptRows {
@@ -60,7 +60,7 @@ impl KeptRows {
     }
 
     // Does all operations, and gives their moves. After a refusal nothing is known of the tables.
-    pub fn do_all<'a, S: OpSource<'a> + Drop>(
+    pub fn do_all<S: OpSource<'a> + Drop>(
         &mut self,
         ops: S,
         tally: &mut Tally,
@@ -83,7 +83,7 @@ impl KeptRows {
     }
 
     // A node, and what it shows.
-    pub fn view_node(&self, next: Pending) -> Result<ViewNode, AllocError>
+    pub fn view_node(&self, next: Pending) -> Result<ViewNode<'a>, AllocError>
         ensures { (s : State) → contents s ≡ self.now
             → IfOk result (λ n. node_seen n ≡ view_node (outline s) next.depth next.id) }
     {
@@ -106,7 +106,7 @@ impl KeptRows {
     }
 
     // What the operation makes of the tables. After a refusal nothing is known of them.
-    pub fn do_op(&mut self, id: OpId, op: OpRef<'_>) -> Result<(), AllocError>
+    pub fn do_op(&mut self, id: OpId, op: OpRef<'a>) -> Result<(), AllocError>
         requires { MayBeDone self.old id (operation_of op) }
         ensures { OnOk result (self.new ≡ all_late self.old (apart id (operation_of op.entry))) }
     {

@@ -7,27 +7,27 @@ ghost use Rattle.model.specs.View.{elements_of, entry_of};
 ghost use Rattle.move_list.specs.Lists.{document_of};
 ghost use Rattle.doc_store.specs.Keys.{entry_seen, kept_key};
 
-use cbor_det::OwnText;
-use lww_map::{OwnValue, RegisterRow, Registers};
+use lww_map::{RegisterRow, Registers};
 use move_list::Lists;
+use op_grammar::{OwnValue, Value};
 use op_ids::OpId;
 use std::alloc::{AllocError, Global};
 use std::marker::Model;
 
 /// A key and its value.
-#[derive(Drop)]
-pub struct KeyValue {
-    pub key: OwnText,
-    pub value: OwnValue,
+#[derive(Clone, Copy)]
+pub struct KeyValue<'a> {
+    pub key: &'a str,
+    pub value: Value<'a>,
 }
 
 /// The keys of a node whose value isn't null, by their bytes, each with its value.
 #[derive(Drop)]
-pub struct KeyList {
-    keys: Vec<KeyValue>,
+pub struct KeyList<'a> {
+    keys: Vec<KeyValue<'a>>,
 }
 
-impl Model for KeyList {
+impl<'a> Model for KeyList<'a> {
     ghost use Rattle.std.specs.Prelude.{List, map};
     ghost use Rattle.model.specs.View.{Entry};
     ghost use Rattle.doc_store.specs.Keys.{entries_code, entry_seen};
@@ -39,9 +39,9 @@ impl Model for KeyList {
     ghost view = { λ k. map entry_seen k.keys.items };
 }
 
-impl KeyList {
+impl<'a> KeyList<'a> {
     /// The keys, each with its value.
-    pub fn as_slice(&self) -> &[KeyValue]
+    pub fn as_slice(&self) -> &[KeyValue<'a>]
         ensures { map entry_seen result.now ≡ self.now }
     {
         self.keys.as_slice()
@@ -77,11 +77,11 @@ impl ItemList {
 }
 
 // The key of a register whose value isn't null, with the value.
-fn shown_key(row: RegisterRow) -> Option<KeyValue>
-    ensures { result ≡ kept_key row }
+fn shown_key<'a>(row: RegisterRow<'a>) -> Option<KeyValue<'a>>
+    ensures { result ≡ kept_key row.entry }
 {
     match row.value {
-        OwnValue::Null => None,
+        Value::Null => None,
         value => Some(KeyValue {
             key: row.key,
             value,
@@ -90,14 +90,21 @@ fn shown_key(row: RegisterRow) -> Option<KeyValue>
 }
 
 // The keys of the registers whose values aren't null, with the values.
-fn shown_keys(alloc: Global, rows: Vec<RegisterRow>) -> Result<Vec<KeyValue>, AllocError>
-    ensures { IfOk result (λ v. v.items ≡ filter_map kept_key rows.items) }
+fn shown_keys<'a>(
+    alloc: Global,
+    rows: Vec<RegisterRow<'a>>,
+) -> Result<Vec<KeyValue<'a>>, AllocError>
+    ensures { IfOk result (λ v. v.items ≡ filter_map kept_key rows.entry.items) }
 {
     rows.into_iter().filter_map(shown_key).collect(alloc)
 }
 
 // What a node has under its keys.
-pub fn keys_of(alloc: Global, registers: &Registers, node: OpId) -> Result<KeyList, AllocError>
+pub fn keys_of<'a>(
+    alloc: Global,
+    registers: &Registers<'a>,
+    node: OpId,
+) -> Result<KeyList<'a>, AllocError>
     ensures { IfOk result (λ k. k ≡ filter_map (entry_of node) (fin.entries registers.now)) }
 {
     let keys = shown_keys(alloc, registers.entries(node)?)?;

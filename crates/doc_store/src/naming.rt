@@ -14,7 +14,7 @@ use crate::references::first_wrong;
 use op_grammar::OpRef;
 use op_ids::{OpId, ROOT, TRASH};
 
-impl Draft {
+impl<'a> Draft<'a> {
     // The first id that the operation names wrongly.
     pub(crate) fn wrong_id(&self, made: &Made, id: OpId, op: OpRef<'_>) -> Option<OpId>
         requires { IsOperation 32 (operation_of op) }

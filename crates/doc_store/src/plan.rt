@@ -13,7 +13,7 @@ use op_grammar::{OpPlan, OpRef};
 use op_ids::{OpId, ROOT};
 use std::alloc::Global;
 
-impl Doc {
+impl<'a> Doc<'a> {
     /// The operations that an edit means in the document, or its first fault.
     pub fn plan<'w>(&self, edit: &Edit<'w>) -> Result<OpPlan<'w>, PlanFault>
         ensures { Plans (state_of self.now) (edit_of edit.now) result }

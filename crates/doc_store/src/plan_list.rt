@@ -17,7 +17,7 @@ use op_grammar::{OpRef, Value};
 use op_ids::{OpId, ROOT, Side};
 use std::alloc::AllocError;
 
-impl Doc {
+impl<'a> Doc<'a> {
     // An element that is added.
     pub(crate) fn plan_add<'w>(
         &self,

@@ -16,7 +16,7 @@ use op_grammar::{OpPlan, OpRef};
 use op_ids::{OpId, ROOT, Side};
 use std::alloc::{AllocError, Global};
 
-impl Doc {
+impl<'a> Doc<'a> {
     // A text that is typed.
     pub(crate) fn plan_typing<'w>(
         &self,

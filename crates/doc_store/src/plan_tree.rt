@@ -20,7 +20,7 @@ use op_grammar::{OpRef, Value};
 use op_ids::{OpId, ROOT, Side, TRASH};
 use std::alloc::AllocError;
 
-impl Doc {
+impl<'a> Doc<'a> {
     // A new child.
     pub(crate) fn plan_new<'w>(&self, parent: OpId, at: u32) -> Result<OpRef<'w>, PlanFault>
         ensures { PlansOne (state_of self.now) (model.new_child parent at) result }

@@ -41,11 +41,11 @@ impl Model for PlaceRows {
 
 /// Rows of registers.
 #[derive(Drop)]
-pub struct RegisterRows {
-    rows: Vec<RegisterRow>,
+pub struct RegisterRows<'a> {
+    rows: Vec<RegisterRow<'a>>,
 }
 
-impl Model for RegisterRows {
+impl<'a> Model for RegisterRows<'a> {
     ghost use Rattle.std.specs.Prelude.{List};
     ghost use Rattle.lww_map.specs.declared.registers.RegisterRow.{RegisterRow};
 
@@ -130,24 +130,24 @@ impl PlaceRows {
     }
 }
 
-impl RegisterRows {
+impl<'a> RegisterRows<'a> {
     /// These rows.
-    pub fn of(rows: Vec<RegisterRow>) -> RegisterRows
-        ensures { result ≡ rows.items }
+    pub fn of(rows: Vec<RegisterRow<'a>>) -> RegisterRows<'a>
+        ensures { result ≡ rows.entry.items }
     {
         RegisterRows { rows }
     }
 
     /// The rows.
-    pub fn as_slice(&self) -> &[RegisterRow]
+    pub fn as_slice(&self) -> &[RegisterRow<'a>]
         ensures { result.now ≡ self.now }
     {
         self.rows.as_slice()
     }
 
     /// The rows, given back.
-    pub fn into_vec(self) -> Vec<RegisterRow>
-        ensures { result.items ≡ self }
+    pub fn into_vec(self) -> Vec<RegisterRow<'a>>
+        ensures { result.items ≡ self.entry }
     {
         self.rows
     }
@@ -202,10 +202,10 @@ impl ElementRows {
 /// The tables, each by its keys: nodes by id, positions by parent and id, registers by node and key, and characters, positions
 /// of lists and elements by node and id.
 #[derive(Drop)]
-pub struct Tables {
+pub struct Tables<'a> {
     pub nodes: NodeRows,
     pub positions: PlaceRows,
-    pub registers: RegisterRows,
+    pub registers: RegisterRows<'a>,
     pub texts: TextRows,
     pub list_positions: PlaceRows,
     pub elements: ElementRows,

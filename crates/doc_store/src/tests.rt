@@ -53,7 +53,7 @@ const SECOND: OpId = OpId {
 };
 
 // A node below the root, in a draft.
-fn first_child(alloc: Global, tally: &mut Tally) -> Result<Draft, AllocError> {
+fn first_child(alloc: Global, tally: &mut Tally) -> Result<Draft<'static>, AllocError> {
     let op = OpRef::NewNode {
         parent: ROOT,
         anchor: ROOT,
@@ -69,7 +69,7 @@ fn first_child(alloc: Global, tally: &mut Tally) -> Result<Draft, AllocError> {
 
 // The references of a child of the first node, behind this anchor.
 fn refs_of_child(
-    draft: &Draft,
+    draft: &Draft<'_>,
     anchor: OpId,
     tally: &mut Tally,
 ) -> Result<Option<BadRef>, AllocError>
@@ -89,7 +89,7 @@ fn refs_of_child(
 }
 
 // The owner of the one row that an edit plans, what it hangs on, and the side.
-fn place_in(doc: &Doc, edit: &Edit<'_>) -> Option<(OpId, OpId, Side)> {
+fn place_in(doc: &Doc<'_>, edit: &Edit<'_>) -> Option<(OpId, OpId, Side)> {
     let Ok(plan) = doc.plan(edit) else {
         return None;
     };
@@ -125,7 +125,7 @@ fn place_in(doc: &Doc, edit: &Edit<'_>) -> Option<(OpId, OpId, Side)> {
 }
 
 // The fault of an edit, and its word.
-fn fault_of(doc: &Doc, edit: &Edit<'_>) -> Option<(EditFault, u32)> {
+fn fault_of(doc: &Doc<'_>, edit: &Edit<'_>) -> Option<(EditFault, u32)> {
     match doc.plan(edit) {
         Err(PlanFault::Edit { fault, word }) => Some((fault, word)),
         _ => None,
@@ -348,12 +348,12 @@ const LATE: [(OpId, OpRef<'static>); 7] = [
 const TEXT: &str = "aby";
 
 // The document of some operations and then others, if they refer right. It is settled once.
-fn in_two_steps(
+fn in_two_steps<'a>(
     alloc: Global,
-    ops: &[(OpId, OpRef<'static>)],
-    others: &[(OpId, OpRef<'static>)],
+    ops: &'a [(OpId, OpRef<'a>)],
+    others: &'a [(OpId, OpRef<'a>)],
     tally: &mut Tally,
-) -> Result<Option<Doc>, AllocError>
+) -> Result<Option<Doc<'a>>, AllocError>
     requires formed { AllByRecursion IsFormed (map atom_of ops.now) }
     requires others_formed { AllByRecursion IsFormed (map atom_of others.now) }
     requires rise { Rises (parts_of (map atom_of ops.now)) }
@@ -383,7 +383,7 @@ fn is_seven(value: &OwnValue) -> bool {
 }
 
 // Whether there is a document that shows the text and the elements of all operations, early and late.
-fn shows_all(doc: &Option<Doc>) -> Result<bool, AllocError> {
+fn shows_all(doc: &Option<Doc<'_>>) -> Result<bool, AllocError> {
     let Some(doc) = doc else {
         return Ok(false);
     };
@@ -398,7 +398,7 @@ fn shows_all(doc: &Option<Doc>) -> Result<bool, AllocError> {
 }
 
 // Whether there is a document that has the rows of all operations.
-fn has_all_rows(doc: &Option<Doc>) -> Result<bool, AllocError> {
+fn has_all_rows(doc: &Option<Doc<'_>>) -> Result<bool, AllocError> {
     let Some(doc) = doc else {
         return Ok(false);
     };
@@ -601,7 +601,7 @@ fn op_of(step: TreeMove) -> Option<OpRef<'static>>
 }
 
 // The draft, settled and then opened again where it is to be.
-fn reopened(draft: Draft, settles: bool, tally: &mut Tally) -> Result<Draft, AllocError>
+fn reopened<'a>(draft: Draft<'a>, settles: bool, tally: &mut Tally) -> Result<Draft<'a>, AllocError>
     ensures { IfOk result (λ d. document_of d ≡ document_of draft) }
 {
     if settles {
@@ -617,7 +617,7 @@ fn arrived(
     moves: &[TreeMove],
     settled: usize,
     tally: &mut Tally,
-) -> Result<Option<Doc>, AllocError> {
+) -> Result<Option<Doc<'static>>, AllocError> {
     let mut draft = Draft::of(Doc::new(alloc));
     for (place, step) in moves.iter().enumerate() {
         draft = reopened(draft, place == settled, tally)?;
@@ -638,7 +638,7 @@ fn is_at(row: &PlaceRow, place: (OpId, OpId)) -> bool {
 }
 
 // Whether these are the tables of a case.
-fn are_tables(tables: &Tables, case: &Case) -> bool {
+fn are_tables(tables: &Tables<'_>, case: &Case) -> bool {
     let positions = tables.positions.as_slice();
     tables.nodes.as_slice() == case.nodes.as_slice()
         && positions.len() == case.positions.len()
@@ -651,11 +651,11 @@ fn are_tables(tables: &Tables, case: &Case) -> bool {
 // The depths and ids of a view.
 const SHOWN: [(u32, OpId); 2] = [(0, ROOT), (1, FIRST)];
 
-fn is_shown(node: &ViewNode, shown: (u32, OpId)) -> bool {
+fn is_shown(node: &ViewNode<'_>, shown: (u32, OpId)) -> bool {
     node.depth == shown.0 && node.id == shown.1 && node.keys.as_slice().is_empty()
 }
 
-fn are_rows(tables: &Tables) -> bool {
+fn are_rows(tables: &Tables<'_>) -> bool {
     tables.nodes.as_slice().len() == 1
         && tables.positions.as_slice().len() == 1
         && tables.registers.as_slice().is_empty()

@@ -10,21 +10,21 @@ use std::marker::Model;
 
 /// A node, how many nodes are above it, and what it shows.
 #[derive(Drop)]
-pub struct ViewNode {
+pub struct ViewNode<'a> {
     pub depth: u32,
     pub id: OpId,
-    pub keys: KeyList,
+    pub keys: KeyList<'a>,
     pub text: OwnText,
     pub items: ItemList,
 }
 
 /// The nodes from the root down, each before those below it.
 #[derive(Drop)]
-pub struct View {
-    nodes: Vec<ViewNode>,
+pub struct View<'a> {
+    nodes: Vec<ViewNode<'a>>,
 }
 
-impl Model for View {
+impl<'a> Model for View<'a> {
     ghost use Rattle.std.specs.Prelude.{List, map};
     ghost use Rattle.model.specs.View.{ViewNode as Shown};
     ghost use Rattle.doc_store.specs.Shown.{nodes_code, node_seen};
@@ -36,16 +36,16 @@ impl Model for View {
     ghost view = { λ v. map node_seen v.nodes.items };
 }
 
-impl View {
+impl<'a> View<'a> {
     /// These nodes.
-    pub(crate) fn of(nodes: Vec<ViewNode>) -> View
-        ensures { result ≡ map node_seen nodes.items }
+    pub(crate) fn of(nodes: Vec<ViewNode<'a>>) -> View<'a>
+        ensures { result ≡ map node_seen nodes.entry.items }
     {
         View { nodes }
     }
 
     /// The nodes.
-    pub fn as_slice(&self) -> &[ViewNode]
+    pub fn as_slice(&self) -> &[ViewNode<'a>]
         ensures { map node_seen result.now ≡ self.now }
     {
         self.nodes.as_slice()

@@ -62,16 +62,16 @@ impl From<TakeFault> for JoinFault {
 ///
 /// Contracts say what is true of it for every base and kept changes that it may be said to hold (`Holds`).
 #[derive(Drop)]
-pub struct Holding {
-    document: Draft,
+pub struct Holding<'a> {
+    document: Draft<'a>,
     fronts: Fronts,
     /// When the kept changes were made.
     times: Times,
 }
 
-impl Holding {
+impl<'a> Holding<'a> {
     /// What is held of a document without changes.
-    pub fn new(alloc: Global, members: u8) -> Result<Holding, AllocError>
+    pub fn new(alloc: Global, members: u8) -> Result<Holding<'a>, AllocError>
         requires some { 0 < members }
         requires few { members ≤ 32 }
         ensures { IfOk result (λ h. Holds h members (base_of members [] 0) []) }
@@ -114,9 +114,9 @@ impl Holding {
 
     /// What is held with a change that may join, in its place. No move is done. After a refusal it is gone. Counts each
     /// operation.
-    pub fn join(self, block: &Block<'_>, tally: &mut Tally) -> Result<Holding, AllocError>
+    pub fn join(self, block: &Block<'a>, tally: &mut Tally) -> Result<Holding<'a>, AllocError>
         requires { (n : ℕ) × (b : Base) × (kept : List Change) × Holds self n b kept × MayJoin n b kept block.now }
-        ensures joins { (n : ℕ) (b : Base) (kept : List Change) → Holds self n b kept → MayJoin n b kept block.now
+        ensures joins { (n : ℕ) (b : Base) (kept : List Change) → Holds self.entry n b kept → MayJoin n b kept block.now
             → IfOk result (λ h. Holds h n b (add kept block.now)) }
         ensures decoded { DecodesAll tally.old tally.new (by_ids block.now.time block.now.member 0 block.now.operations) result }
         ensures moves { tally.new.moves ≡ tally.old.moves }
@@ -132,9 +132,9 @@ impl Holding {
 
     /// What is held with a change, the next of its member, in its place, or the first reason why it may not join, after which it is
     /// gone. No move is done. Counts each operation that it reads.
-    pub fn take(self, block: &Block<'_>, tally: &mut Tally) -> Result<Holding, JoinFault>
+    pub fn take(self, block: &Block<'a>, tally: &mut Tally) -> Result<Holding<'a>, JoinFault>
         requires { (n : ℕ) × (b : Base) × (kept : List Change) × Holds self n b kept × IsNext n b kept block.now }
-        ensures takes { (n : ℕ) (b : Base) (kept : List Change) → Holds self n b kept → IsNext n b kept block.now
+        ensures takes { (n : ℕ) (b : Base) (kept : List Change) → Holds self.entry n b kept → IsNext n b kept block.now
             → Takes n b kept block.now result }
         ensures tally { DecodesSome tally.old tally.new (length block.now.operations) }
     {
@@ -151,10 +151,10 @@ impl Holding {
     }
 
     /// The document, its moves done in the order of their ids. Counts at most these.
-    pub fn settle(self, tally: &mut Tally) -> Result<Doc, AllocError>
-        ensures document { (n : ℕ) (b : Base) (kept : List Change) → Holds self n b kept
+    pub fn settle(self, tally: &mut Tally) -> Result<Doc<'a>, AllocError>
+        ensures document { (n : ℕ) (b : Base) (kept : List Change) → Holds self.entry n b kept
             → IfOk result (λ d. IsDocument d b.state (atoms kept)) }
-        ensures tally { (n : ℕ) (b : Base) (kept : List Change) → Holds self n b kept
+        ensures tally { (n : ℕ) (b : Base) (kept : List Change) → Holds self.entry n b kept
             → Worked tally.old tally.new (sum_by move_count kept) }
     {
         self.document.settle(tally)
@@ -162,15 +162,15 @@ impl Holding {
 
     /// What is held of a document to which the change with this head has come.
     fn with_change(
-        document: Draft,
+        document: Draft<'a>,
         mut fronts: Fronts,
         mut times: Times,
         head: &Head,
-    ) -> Result<Holding, AllocError>
+    ) -> Result<Holding<'a>, AllocError>
         requires row { head.now.member < length fronts }
         requires causes { length head.now.causes ≡ length fronts }
         requires list { head.now.member < length times }
-        ensures { IfOk result (λ h. h ≡ with_change document fronts times head.now) }
+        ensures { IfOk result (λ h. h ≡ with_change document.entry fronts times head.now) }
     {
         fronts.take(head);
         times.push(head.member, head.time)?;

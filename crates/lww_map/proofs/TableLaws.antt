@@ -24,8 +24,8 @@ use Rattle.model_laws.specs.Arrival.{writer_is_before, late_register}
 use Rattle.model_laws.proofs.Tables.{register_total, register_exact, key_itself}
 use Rattle.model_laws.proofs.KeptTables.{entries_are, none_among, below_next}
 use Rattle.lww_map.specs.declared.registers.RegisterRow.{RegisterRow}
-use Rattle.op_grammar.specs.declared.value.OwnValue.TheVariants as own
-use Rattle.op_grammar.specs.Values.{own_value_of}
+use Rattle.op_grammar.specs.declared.value.Value.TheVariants as lent
+use Rattle.op_grammar.specs.Values.{value_of}
 use Rattle.lww_map.specs.Keys.{row_seen, rows_seen, Keys, tagged, table_list, table_of, node_rows, key_written}
 
 abbrev pub tied : OpId → OpId → Bool
@@ -249,22 +249,22 @@ rows_table (e ∷ es) h node =
 
 -- what a read of a list of rows has past its end
 abbrev pub no_row : RegisterRow
-no_row = record { node = record { time = 0; member = 0; index = 0 }; key = []; writer = record { time = 0; member = 0; index = 0 }; value = own.Null }
+no_row = record { node = record { time = 0; member = 0; index = 0 }; key = record { ref_ptr = (0, 0); now = [] }; writer = record { time = 0; member = 0; index = 0 }; value = lent.Null }
 
 pub row_written : (rows : List RegisterRow) (i : ℕ) → i < length rows → IsStrictlySortedBy register_cmp (map (λ e. e.0) (rows_seen rows))
-    → late_register (from_entries (rows_seen (take i rows))) (get_or rows i no_row).writer (put_key (get_or rows i no_row).node (get_or rows i no_row).key (own_value_of (get_or rows i no_row).value))
+    → late_register (from_entries (rows_seen (take i rows))) (get_or rows i no_row).writer (put_key (get_or rows i no_row).node (get_or rows i no_row).key.now (value_of (get_or rows i no_row).value))
     ≡ from_entries {R = register_cmp} (rows_seen (take (i + 1) rows))
 row_written rows i l h =
     let r = get_or rows i no_row in
     let parts : rows ≡ take i rows ++ r ∷ drop (i + 1) rows = sym (take-append-drop i rows) ∙ ap (λ rs. take i rows ++ rs) (drop_more rows i no_row l) in
-    let keys : map (λ e. e.0) (rows_seen rows) ≡ map (λ e. e.0) (rows_seen (take i rows)) ++ (r.node, r.key) ∷ map (λ e. e.0) (rows_seen (drop (i + 1) rows)) =
+    let keys : map (λ e. e.0) (rows_seen rows) ≡ map (λ e. e.0) (rows_seen (take i rows)) ++ (r.node, r.key.now) ∷ map (λ e. e.0) (rows_seen (drop (i + 1) rows)) =
     ap (λ rs. map (λ (e : Register × Written). e.0) (rows_seen rs)) parts ∙ ap (map (λ (e : Register × Written). e.0)) (map-append row_seen (take i rows) (r ∷ drop (i + 1) rows))
     ∙ map-append (λ (e : Register × Written). e.0) (rows_seen (take i rows)) (rows_seen (r ∷ drop (i + 1) rows)) in
-    let none : find register_cmp (r.node, r.key) (rows_seen (take i rows)) ≡ None =
-    none_among register_total (rows_seen (take i rows)) (r.node, r.key)
-    (below_next register_total (map (λ e. e.0) (rows_seen (take i rows))) (r.node, r.key) (map (λ e. e.0) (rows_seen (drop (i + 1) rows))) (subst (IsStrictlySortedBy register_cmp) keys h)) in
-    let free : get (from_entries {R = register_cmp} (rows_seen (take i rows))) (r.node, r.key) ≡ None = get-from_entries register_total (rows_seen (take i rows)) (r.node, r.key) ∙ none in
+    let none : find register_cmp (r.node, r.key.now) (rows_seen (take i rows)) ≡ None =
+    none_among register_total (rows_seen (take i rows)) (r.node, r.key.now)
+    (below_next register_total (map (λ e. e.0) (rows_seen (take i rows))) (r.node, r.key.now) (map (λ e. e.0) (rows_seen (drop (i + 1) rows))) (subst (IsStrictlySortedBy register_cmp) keys h)) in
+    let free : get (from_entries {R = register_cmp} (rows_seen (take i rows))) (r.node, r.key.now) ≡ None = get-from_entries register_total (rows_seen (take i rows)) (r.node, r.key.now) ∙ none in
     rw free
     (sym (ap (λ rs. from_entries {R = register_cmp} (rows_seen rs)) (take_more rows i no_row l)
     ∙ ap (from_entries {R = register_cmp}) (map-append row_seen (take i rows) (r ∷ []))
-    ∙ from_entries_push register_total register_exact (rows_seen (take i rows)) (r.node, r.key) (record { writer = r.writer; value = own_value_of r.value }) none))
+    ∙ from_entries_push register_total register_exact (rows_seen (take i rows)) (r.node, r.key.now) (record { writer = r.writer; value = value_of r.value }) none))

@@ -2,48 +2,42 @@
 ghost use Rattle.std.specs.Prelude.{◌≡◌, ◌++◌, OnOk, OnErr, map};
 ghost use Rattle.std.specs.FinMap as fin;
 ghost use Rattle.std.specs.BTreeMap as tree;
-ghost use Rattle.std.specs.String.{string_cmp};
 ghost use Rattle.op_grammar.specs.Values.{value_of};
-ghost use Rattle.lww_map.specs.Keys.{seen, overwritten, key_written, written_seen, tagged, rows_seen, key_list};
+ghost use Rattle.lww_map.specs.Keys.{seen, overwritten, key_written, written_seen, tagged, rows_seen, key_list, prefix_cmp};
 
+use crate::prefix_key::PrefixKey;
 use crate::registers::RegisterRow;
-use cbor_det::OwnText;
-use op_grammar::{OwnValue, Value};
+use op_grammar::Value;
 use op_ids::OpId;
 use std::alloc::{AllocError, Global};
 use std::collections::BTreeMap;
 use std::marker::Model;
 
 // Who wrote a register last, and what.
-#[derive(Drop)]
-pub struct Written {
+#[derive(Clone, Copy)]
+pub struct Written<'a> {
     pub writer: OpId,
-    pub value: OwnValue,
+    pub value: Value<'a>,
 }
 
-impl Written {
-    // Takes the write in if its id is greater, and else copies nothing.
-    fn overwrite(&mut self, alloc: Global, id: OpId, value: Value<'_>) -> Result<(), AllocError>
-        ensures ok { OnOk result (seen self.new ≡ overwritten (seen self.old) id (value_of value.entry)) }
-        ensures err { OnErr result (self.new ≡ self.old) }
+impl<'a> Written<'a> {
+    // Gives way to a write with a greater id.
+    fn overwrite(&mut self, by: Written<'a>)
+        ensures { seen self.new ≡ overwritten (seen self.old) (seen by.entry) }
     {
-        if self.writer.is_before(id) {
-            *self = Written {
-                writer: id,
-                value: OwnValue::of(alloc, value)?,
-            };
+        if self.writer.is_before(by.writer) {
+            *self = by;
         }
-        Ok(())
     }
 }
 
 // The registers of a node, by their keys.
 #[derive(Drop)]
-pub struct NodeKeys {
-    keys: BTreeMap<String, Written>,
+pub struct NodeKeys<'a> {
+    keys: BTreeMap<PrefixKey<'a>, Written<'a>>,
 }
 
-impl Model for NodeKeys {
+impl<'a> Model for NodeKeys<'a> {
     ghost use Rattle.lww_map.specs.Keys.{Keys, keys_code, keys_of};
 
     ghost Value = { Keys };
@@ -53,9 +47,9 @@ impl Model for NodeKeys {
     ghost view = { λ k. keys_of k.keys.entries };
 }
 
-impl NodeKeys {
+impl<'a> NodeKeys<'a> {
     // Nothing was written.
-    pub fn new(alloc: Global) -> NodeKeys
+    pub fn new(alloc: Global) -> NodeKeys<'a>
         ensures { result ≡ fin.empty }
     {
         NodeKeys {
@@ -64,66 +58,53 @@ impl NodeKeys {
     }
 
     // The last write of a key.
-    #[tactic(auto, using(crate::proofs::KeyEntries::key_entries))]
-    pub fn get(&self, key: &str) -> Option<&Written>
+    pub fn get(&self, key: &'a str) -> Option<&Written<'a>>
         ensures { written_seen result ≡ fin.get self.now key.now }
     {
-        self.keys.get(key)
+        let sought = PrefixKey::of(key);
+        self.keys.get(&sought)
     }
 
-    // Keeps the write, unless one with a greater id came before it. Copies only what it keeps.
-    pub fn write(
-        &mut self,
-        alloc: Global,
-        key: &str,
-        id: OpId,
-        value: Value<'_>,
-    ) -> Result<(), AllocError>
+    // Keeps the write, unless one with a greater id came before it.
+    pub fn write(&mut self, key: &'a str, id: OpId, value: Value<'a>) -> Result<(), AllocError>
         ensures ok { OnOk result (self.new ≡ key_written self.old key.now id (value_of value.entry)) }
         ensures err { OnErr result (self.new ≡ self.old) }
     {
-        if let Some(last) = self.keys.get_mut(key) {
-            return last.overwrite(alloc, id, value);
+        let key = PrefixKey::of(key);
+        let written = Written { writer: id, value };
+        if let Some(last) = self.keys.get_mut(&key) {
+            last.overwrite(written);
+            return Ok(());
         }
-        let written = Written {
-            writer: id,
-            value: OwnValue::of(alloc, value)?,
-        };
-        self.keys.insert(String::from_str(alloc, key)?, written)?;
+        self.keys.insert(key, written)?;
         Ok(())
     }
 
     // Adds the registers behind the rows, by their keys.
-    pub fn push_rows(
-        &self,
-        alloc: Global,
-        node: OpId,
-        rows: &mut Vec<RegisterRow>,
-    ) -> Result<(), AllocError>
+    pub fn push_rows(&self, node: OpId, rows: &mut Vec<RegisterRow<'a>>) -> Result<(), AllocError>
         ensures { OnOk result (rows_seen rows.new.items
             ≡ rows_seen rows.old.items ++ tagged node (fin.entries self.now)) }
     {
-        push_all(alloc, &self.keys, node, rows)
+        push_all(&self.keys, node, rows)
     }
 }
 
-fn push_all(
-    alloc: Global,
-    keys: &BTreeMap<String, Written>,
+fn push_all<'a>(
+    keys: &BTreeMap<PrefixKey<'a>, Written<'a>>,
     node: OpId,
-    rows: &mut Vec<RegisterRow>,
+    rows: &mut Vec<RegisterRow<'a>>,
 ) -> Result<(), AllocError>
     ensures pushed { OnOk result (rows_seen rows.new.items
         ≡ rows_seen rows.old.items ++ tagged node (key_list keys.now.entries)) }
-    ensures ordered { tree.IsOrdered string_cmp keys.now }
+    ensures ordered { tree.IsOrdered prefix_cmp keys.now }
 {
     let _ = keys.len();
     for (key, written) in keys {
         rows.push(RegisterRow {
             node,
-            key: OwnText::of(alloc, key.as_str())?,
+            key: key.text,
             writer: written.writer,
-            value: OwnValue::of(alloc, written.value.as_value())?,
+            value: written.value,
         })?;
     }
     Ok(())

@@ -11,30 +11,29 @@ ghost use Rattle.op_grammar.specs.Values.{value_of};
 ghost use Rattle.lww_map.specs.Keys.{register_seen, rows_seen, node_rows, table_list};
 
 use crate::keys::NodeKeys;
-use cbor_det::OwnText;
-use op_grammar::{OwnValue, Value};
+use op_grammar::Value;
 use op_ids::OpId;
 use std::alloc::{AllocError, Global};
 use std::collections::BTreeMap;
 use std::marker::Model;
 
 /// A register: a key of a node, who wrote it last, and what.
-#[derive(Drop)]
-pub struct RegisterRow {
+#[derive(Clone, Copy)]
+pub struct RegisterRow<'a> {
     pub node: OpId,
-    pub key: OwnText,
+    pub key: &'a str,
     pub writer: OpId,
-    pub value: OwnValue,
+    pub value: Value<'a>,
 }
 
-/// The registers of all nodes. Each keeps the write with the greatest id.
+/// The registers of all nodes, their keys and values borrowed. Each keeps the write with the greatest id.
 #[derive(Drop)]
-pub struct Registers {
+pub struct Registers<'a> {
     alloc: Global,
-    nodes: BTreeMap<OpId, NodeKeys>,
+    nodes: BTreeMap<OpId, NodeKeys<'a>>,
 }
 
-impl Model for Registers {
+impl<'a> Model for Registers<'a> {
     ghost use Rattle.lww_map.specs.Keys.{Table, table_code, table_of};
 
     ghost Value = { Table };
@@ -44,9 +43,9 @@ impl Model for Registers {
     ghost view = { λ r. table_of r.nodes.entries };
 }
 
-impl Registers {
+impl<'a> Registers<'a> {
     /// Nothing was written.
-    pub fn new(alloc: Global) -> Registers
+    pub fn new(alloc: Global) -> Registers<'a>
         ensures { result ≡ fin.empty }
     {
         Registers {
@@ -56,13 +55,13 @@ impl Registers {
     }
 
     /// The registers of these rows.
-    pub fn from_rows(alloc: Global, rows: &[RegisterRow]) -> Result<Registers, AllocError>
+    pub fn from_rows(alloc: Global, rows: &[RegisterRow<'a>]) -> Result<Registers<'a>, AllocError>
         requires { IsStrictlySortedBy register_cmp (map (λ e. e.0) (rows_seen rows.now)) }
         ensures { IfOk result (λ r. r ≡ fin.from_entries (rows_seen rows.now)) }
     {
         let mut registers = Registers::new(alloc);
         for row in rows {
-            registers.write(row.node, row.key.text(), row.writer, row.value.as_value())?;
+            registers.write(row.node, row.key, row.writer, row.value)?;
         }
         Ok(registers)
     }
@@ -71,47 +70,47 @@ impl Registers {
     pub fn write(
         &mut self,
         node: OpId,
-        key: &str,
+        key: &'a str,
         id: OpId,
-        value: Value<'_>,
+        value: Value<'a>,
     ) -> Result<(), AllocError>
         ensures ok { OnOk result (self.new
             ≡ late_register self.old id (put_key node key.now (value_of value.entry))) }
         ensures err { OnErr result (self.new ≡ self.old) }
     {
         if let Some(keys) = self.nodes.get_mut(&node) {
-            return keys.write(self.alloc, key, id, value);
+            return keys.write(key, id, value);
         }
         let mut keys = NodeKeys::new(self.alloc);
-        keys.write(self.alloc, key, id, value)?;
+        keys.write(key, id, value)?;
         self.nodes.insert(node, keys)?;
         Ok(())
     }
 
     /// The last write of a key, and who wrote it, or `None` exactly where nothing was written.
-    pub fn get(&self, node: OpId, key: &str) -> Option<(OpId, &OwnValue)>
+    pub fn get(&self, node: OpId, key: &'a str) -> Option<(OpId, Value<'a>)>
         ensures { register_seen result ≡ fin.get self.now (node, key.now) }
     {
         let _ = self.nodes.len();
         let keys = self.nodes.get(&node)?;
         let written = keys.get(key)?;
-        Some((written.writer, &written.value))
+        Some((written.writer, written.value))
     }
 
     /// The registers of a node, by key.
-    pub fn entries(&self, node: OpId) -> Result<Vec<RegisterRow>, AllocError>
+    pub fn entries(&self, node: OpId) -> Result<Vec<RegisterRow<'a>>, AllocError>
         ensures { IfOk result (λ v. rows_seen v.items ≡ node_rows node (fin.entries self.now)) }
     {
         let mut rows = Vec::new(self.alloc);
         let _ = self.nodes.len();
         if let Some(keys) = self.nodes.get(&node) {
-            keys.push_rows(self.alloc, node, &mut rows)?;
+            keys.push_rows(node, &mut rows)?;
         }
         Ok(rows)
     }
 
     /// All registers, by node and key.
-    pub fn rows(&self) -> Result<Vec<RegisterRow>, AllocError>
+    pub fn rows(&self) -> Result<Vec<RegisterRow<'a>>, AllocError>
         ensures { IfOk result (λ v. rows_seen v.items ≡ fin.entries self.now) }
     {
         rows_in(self.alloc, &self.nodes)
@@ -119,14 +118,17 @@ impl Registers {
 }
 
 // The registers of each node in turn.
-fn rows_in(alloc: Global, nodes: &BTreeMap<OpId, NodeKeys>) -> Result<Vec<RegisterRow>, AllocError>
+fn rows_in<'a>(
+    alloc: Global,
+    nodes: &BTreeMap<OpId, NodeKeys<'a>>,
+) -> Result<Vec<RegisterRow<'a>>, AllocError>
     ensures rows { IfOk result (λ v. rows_seen v.items ≡ table_list nodes.now.entries) }
     ensures ordered { tree.IsOrdered id_cmp nodes.now }
 {
     let mut rows = Vec::new(alloc);
     let _ = nodes.len();
     for (node, keys) in nodes {
-        keys.push_rows(alloc, *node, &mut rows)?;
+        keys.push_rows(*node, &mut rows)?;
     }
     Ok(rows)
 }

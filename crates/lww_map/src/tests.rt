@@ -13,26 +13,43 @@ const fn id(time: u64) -> OpId {
 }
 
 // Writes in the order in which they come: a node and a key, the time of the write, and its number.
-const WRITES: [(u64, &str, u64, i64); 5] = [
+const WRITES: [(u64, &str, u64, i64); 11] = [
     (1, "b", 4, 40),
     (1, "b", 3, 30),
     (1, "a", 2, 20),
     (0, "b", 2, 21),
     (0, "b", 5, 50),
+    // Keys whose first 8 bytes are the same, or the same but for zeros that stand there.
+    (2, "alike in 9", 7, 70),
+    (2, "alike in 10", 8, 80),
+    (2, "alike in", 9, 90),
+    (2, "a\0", 10, 100),
+    (2, "a", 11, 110),
+    (2, "\u{e9}", 12, 120),
 ];
 
 // What is kept of them, by node and key.
-const KEPT: [(u64, &str, u64, i64); 3] = [(0, "b", 5, 50), (1, "a", 2, 20), (1, "b", 4, 40)];
+const KEPT: [(u64, &str, u64, i64); 9] = [
+    (0, "b", 5, 50),
+    (1, "a", 2, 20),
+    (1, "b", 4, 40),
+    (2, "a", 11, 110),
+    (2, "a\0", 10, 100),
+    (2, "alike in", 9, 90),
+    (2, "alike in 10", 8, 80),
+    (2, "alike in 9", 7, 70),
+    (2, "\u{e9}", 12, 120),
+];
 
-fn is_row(row: &RegisterRow, kept: (u64, &str, u64, i64)) -> bool {
+fn is_row(row: &RegisterRow<'_>, kept: (u64, &str, u64, i64)) -> bool {
     let (node, key, writer, number) = kept;
     row.node == id(node)
-        && row.key.text() == key
+        && row.key == key
         && row.writer == id(writer)
-        && matches!(row.value.as_value(), Value::Int(n) if n == number)
+        && matches!(row.value, Value::Int(n) if n == number)
 }
 
-fn copy_of(alloc: Global, registers: &Registers) -> Result<Registers, AllocError> {
+fn copy_of<'a>(alloc: Global, registers: &Registers<'a>) -> Result<Registers<'a>, AllocError> {
     let rows = registers.rows()?;
     Registers::from_rows(alloc, rows.as_slice())
 }

@@ -45,7 +45,7 @@ impl From<AllocError> for BuildFault {
 #[derive(Drop)]
 pub struct Replica<'a> {
     pub(crate) parts: FileParts<'a>,
-    pub(crate) holding: Holding,
+    pub(crate) holding: Holding<'a>,
 }
 
 impl<'a> Model for Replica<'a> {
@@ -90,7 +90,7 @@ impl<'a> Replica<'a> {
     }
 
     /// The document. Counts the moves of the kept changes, which are done now.
-    pub fn into_doc(self, tally: &mut Tally) -> Result<Doc, AllocError>
+    pub fn into_doc(self, tally: &mut Tally) -> Result<Doc<'a>, AllocError>
         ensures document { IfOk result (λ d. IsDocument d (base_in self.entry).state (atoms self.entry.kept)) }
         ensures state { IfOk result (λ d. state_of d ≡ state_in self.entry) }
         ensures tally { Worked tally.old tally.new (sum_by move_count self.entry.kept) }

@@ -36,7 +36,7 @@ pub(crate) struct Settled<'a> {
 /// A ledger with what is held of it, the changes that may join it, and the report so far.
 #[derive(Drop)]
 struct Judging<'a> {
-    holding: Holding,
+    holding: Holding<'a>,
     ledger: Ledger<'a>,
     inbox: Inbox<'a>,
     report: Report,
@@ -45,16 +45,16 @@ struct Judging<'a> {
 /// What a ledger of kept changes, the changes that wait for others, and changes that are offered become.
 pub(crate) fn settle<'a>(
     alloc: Global,
-    holding: Holding,
+    holding: Holding<'a>,
     kept: &Shelf<'a>,
     waiting: &Shelf<'a>,
     offered: &Shelf<'a>,
     tally: &mut Tally,
 ) -> Result<Settled<'a>, AllocError>
     requires { (n : ℕ) × MaySettle n holding kept.now waiting.now offered.now }
-    ensures settled { (n : ℕ) → MaySettle n holding kept.now waiting.now offered.now
+    ensures settled { (n : ℕ) → MaySettle n holding.entry kept.now waiting.now offered.now
         → IfOk result (IsSettled (settles n (held_behind (base_of n [] 0)) kept.now kept.now waiting.now offered.now)) }
-    ensures tally { (n : ℕ) → MaySettle n holding kept.now waiting.now offered.now
+    ensures tally { (n : ℕ) → MaySettle n holding.entry kept.now waiting.now offered.now
         → DecodesSome tally.old tally.new (2 * operations_in (readied n (held_behind (base_of n [] 0)) kept.now kept.now waiting.now offered.now)) }
 {
     let held = holding.counts();

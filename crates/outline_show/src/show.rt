@@ -15,7 +15,7 @@ use std::alloc::{AllocError, Global};
 
 /// The view in printed lines: one for each node, with its depth and its id, and behind it one for each of its keys, one for
 /// its text, if that isn't empty, and one for each of its elements. Fails only where memory runs out.
-pub fn show_text(alloc: Global, view: &View) -> Result<OwnText, AllocError>
+pub fn show_text(alloc: Global, view: &View<'_>) -> Result<OwnText, AllocError>
     ensures { IfOk result (λ text. text ≡ printed.show_text view.now) }
 {
     let mut text = String::new(alloc);
@@ -26,7 +26,7 @@ pub fn show_text(alloc: Global, view: &View) -> Result<OwnText, AllocError>
 }
 
 /// Appends the lines of a node.
-fn push_node(alloc: Global, text: &mut String, node: &ViewNode) -> Result<(), AllocError>
+fn push_node(alloc: Global, text: &mut String, node: &ViewNode<'_>) -> Result<(), AllocError>
     ensures { OnOk result (string_bytes text.new ≡ string_bytes text.old
         ++ printed.shown_node (node_seen node.now)) }
 {
@@ -37,7 +37,7 @@ fn push_node(alloc: Global, text: &mut String, node: &ViewNode) -> Result<(), Al
 }
 
 /// Appends a line for each key.
-fn push_keys(alloc: Global, text: &mut String, keys: &KeyList) -> Result<(), AllocError>
+fn push_keys(alloc: Global, text: &mut String, keys: &KeyList<'_>) -> Result<(), AllocError>
     ensures { OnOk result (string_bytes text.new ≡ string_bytes text.old
         ++ flat_map printed.entry_line keys.now) }
 {
@@ -48,14 +48,14 @@ fn push_keys(alloc: Global, text: &mut String, keys: &KeyList) -> Result<(), All
 }
 
 /// Appends the line of a key with its value.
-fn push_key(alloc: Global, text: &mut String, key: &KeyValue) -> Result<(), AllocError>
+fn push_key(alloc: Global, text: &mut String, key: &KeyValue<'_>) -> Result<(), AllocError>
     ensures { OnOk result (string_bytes text.new ≡ string_bytes text.old
         ++ printed.entry_line (entry_seen key.now)) }
 {
     text.push_str("key ")?;
-    push_quoted(alloc, text, key.key.text())?;
+    push_quoted(alloc, text, key.key)?;
     text.push(' ')?;
-    push_value(alloc, text, key.value.as_value())?;
+    push_value(alloc, text, key.value)?;
     text.push('\n')
 }
 

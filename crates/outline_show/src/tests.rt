@@ -147,7 +147,7 @@ const KEPT: &str = "change 1 2 30 causes 0,0,0 count 4 width 5\n";
 const WAITING: &str = "waits 1 2 30 causes 0,0,0 count 4 width 5\n";
 
 // The document of these operations, if they refer right.
-fn small_document(alloc: Global) -> Result<Option<Doc>, AllocError> {
+fn small_document(alloc: Global) -> Result<Option<Doc<'static>>, AllocError> {
     let mut tally = Tally::new();
     let draft = Draft::of(Doc::new(alloc));
     match draft.refs_known(

@@ -12,7 +12,7 @@ use Rattle.holding.proofs.holding.Holding.misfit.Goals as goal
 pub refs_known-requires : goal.refs_known-requires
 refs_known-requires c κs =
     let (n, b, kept, holds, is) = c.requires in
-    ((refl, tt), subst (AllByRecursion IsFormed) (sym c.ops.ensures) (formed_of n c.args.block.now holds.few is))
+    ((refl, (refl, tt)), subst (AllByRecursion IsFormed) (sym c.ops.ensures) (formed_of n c.args.block.now holds.few is))
 
 pub returns-in-Some-clause-first : goal.returns-in-Some-clause-first
 returns-in-Some-clause-first c = λ n b kept holds is. told_by_head n (held_behind b kept) c.args.block.now c.in-Some.misfit (c.in-Some.ensures n b kept holds is)
