@@ -9,13 +9,13 @@ use Rattle.model.specs.Reading.{base_in}
 use Rattle.model.specs.Text.{field}
 use Rattle.replica.specs.Empty.{base_in as base_of_kind}
 use Rattle.replica.specs.Scanning.{HasEmptyBase}
-use Rattle.outline_cmd.specs.declared.status.Status.{Status}
-use Rattle.outline_cmd.specs.Meaning.{exactly, Roles, reads_and_makes}
-use Rattle.outline_cmd.specs.Outcome.{Outcome, storing, same_document, cut_off, trimmed_told, bundled}
-use Rattle.outline_cmd.specs.Stages.{Refuses}
+use Rattle.outline_meaning.specs.declared.status.Status.{Status}
+use Rattle.outline_meaning.specs.Meaning.{exactly, Roles, reads_and_makes}
+use Rattle.outline_meaning.specs.Outcome.{Outcome, storing, same_document, cut_off, trimmed_told, bundled}
+use Rattle.outline_meaning.specs.Follows.{Refuses}
 use Rattle.outline_cmd.specs.Tasks.{answering}
 use Rattle.outline_cmd.proofs.InputLaws.{step_refuses}
-use Rattle.outline_cmd.proofs.StepLaws.{on}
+use Rattle.outline_meaning.proofs.StepLaws.{on}
 
 -- ---- nothing was trimmed behind the empty base
 

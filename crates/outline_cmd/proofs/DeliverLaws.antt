@@ -5,17 +5,18 @@ use Rattle.model.specs.File.{File, Kind, member_file, bundle, snapshot, kind_num
 use Rattle.model.specs.Reading.{settled_in, with_settled}
 use Rattle.model.specs.Text.{report_text}
 use Rattle.outline_cmd.specs.declared.answer.Answer.{Answer as AnswerStruct}
-use Rattle.outline_cmd.specs.declared.status.Status.{Status}
-use Rattle.outline_cmd.specs.declared.status.Status.TheVariants as s
-use Rattle.outline_cmd.specs.Meaning.{◌>>=◌, exactly, Roles, reads_two, Loaded, whole, read, opened, file_of, delivered_to, member_files, Answer}
-use Rattle.outline_cmd.specs.Outcome.{Outcome, storing, same_document, fitting, delivered}
-use Rattle.outline_cmd.specs.Stages.{Refuses, Follows, answer_of}
+use Rattle.outline_meaning.specs.declared.status.Status.{Status}
+use Rattle.outline_meaning.specs.declared.status.Status.TheVariants as s
+use Rattle.outline_meaning.specs.Meaning.{◌>>=◌, exactly, Roles, reads_two, Loaded, whole, read, opened, file_of, delivered_to, member_files, Answer}
+use Rattle.outline_meaning.specs.Outcome.{Outcome, storing, same_document, fitting, delivered}
+use Rattle.outline_meaning.specs.Follows.{Refuses, Follows}
+use Rattle.outline_cmd.specs.Stages.{answer_of}
 use Rattle.outline_cmd.specs.Tasks.{over, answering}
-use Rattle.outline_cmd.proofs.LedgerMeaning.{kind_passed}
+use Rattle.outline_meaning.proofs.LedgerMeaning.{kind_passed}
 use Rattle.outline_cmd.proofs.InputLaws.{step_refuses}
-use Rattle.outline_cmd.proofs.Loads.{read_held}
-use Rattle.outline_cmd.proofs.StageLaws.{refuses_first, refuses_next, refuses_on, refuses_behind, follows_by}
-use Rattle.outline_cmd.proofs.StepLaws.{on}
+use Rattle.outline_input.proofs.Loads.{read_held}
+use Rattle.outline_meaning.proofs.StageLaws.{refuses_first, refuses_next, refuses_on, refuses_behind, follows_by}
+use Rattle.outline_meaning.proofs.StepLaws.{on}
 
 -- ---- two files
 

@@ -17,15 +17,16 @@ use Rattle.replica.specs.declared.fault.Misfit.{Misfit}
 use Rattle.replica.specs.declared.fault.Misfit.TheVariants as misfit
 use Rattle.outline_cmd.specs.declared.answer.Answer.{Answer as AnswerStruct}
 use Rattle.replica.specs.declared.fault.MemberFault.TheVariants.{Nobody}
-use Rattle.outline_cmd.specs.declared.status.Status.{Status}
-use Rattle.outline_cmd.specs.declared.status.Status.TheVariants as s
-use Rattle.outline_cmd.specs.Meaning.{Meaning, ◌>>=◌, exactly, Roles, reads, Loaded, whole, read, opened, file_of, of_input, answered}
-use Rattle.outline_cmd.specs.Outcome.{Outcome, misfit_told, edit_fault_told, told, held_by_some, fitting, with_made_lines, edited, shown}
-use Rattle.outline_cmd.specs.Stages.{Refuses, Follows, answer_of}
+use Rattle.outline_meaning.specs.declared.status.Status.{Status}
+use Rattle.outline_meaning.specs.declared.status.Status.TheVariants as s
+use Rattle.outline_meaning.specs.Meaning.{Meaning, ◌>>=◌, exactly, Roles, reads, Loaded, whole, read, opened, file_of, of_input, answered}
+use Rattle.outline_meaning.specs.Outcome.{Outcome, misfit_told, edit_fault_told, told, held_by_some, fitting, with_made_lines, edited, shown}
+use Rattle.outline_meaning.specs.Follows.{Refuses, Follows}
+use Rattle.outline_cmd.specs.Stages.{answer_of}
 use Rattle.outline_cmd.specs.Tasks.{over, answering}
-use Rattle.outline_cmd.proofs.Loads.{read_held}
-use Rattle.outline_cmd.proofs.StageLaws.{refuses_first, refuses_next, refuses_on, refuses_behind, follows_by}
-use Rattle.outline_cmd.proofs.StepLaws.{on}
+use Rattle.outline_input.proofs.Loads.{read_held}
+use Rattle.outline_meaning.proofs.StageLaws.{refuses_first, refuses_next, refuses_on, refuses_behind, follows_by}
+use Rattle.outline_meaning.proofs.StepLaws.{on}
 
 -- ---- faults
 

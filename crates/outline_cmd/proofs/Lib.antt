@@ -1,17 +1,9 @@
-pub mod Loads
-pub mod StageLaws
-pub mod StepLaws
-pub mod MeaningLaws
 pub mod OrderLaws
 pub mod RunLaws
 pub mod HoldsLaws
 pub mod HexLaws
 pub mod InputLaws
 pub mod MadeLines
-pub mod StandLaws
-pub mod BaseLaws
-pub mod LedgerMeaning
-pub mod StayLaws
 pub mod BundleLaws
 pub mod DeliverLaws
 pub mod LinkLaws
@@ -20,5 +12,4 @@ pub mod WorkLaws
 pub mod OpenLaws
 pub mod PipeLaws
 pub mod RunEnds
-pub mod MeantLaws
 pub mod RunMeaning

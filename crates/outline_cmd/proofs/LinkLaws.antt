@@ -3,12 +3,12 @@ use Rattle.std.proofs.Common.{◌≡◌, ℕ, List, [], Result, Ok, Err, refl, s
 use Rattle.model.specs.File.{Kind}
 use Rattle.model.specs.Command.{Command, found, edit, ack, show, status, log, bundle_since, deliver, trim, snapshot_of, release, begin_from, check, items}
 use Rattle.outline_words.specs.Table.{Order, command, play, sample}
-use Rattle.outline_cmd.specs.declared.status.Status.{Status}
-use Rattle.outline_cmd.specs.Scope.{taken_order}
-use Rattle.outline_cmd.specs.Outcome.{Outcome}
-use Rattle.outline_cmd.specs.Meaning.{roles, Loaded, Loads, read, input_bytes, file_of, delivered_to, order_made, Answer, answered, member_files, based_files, all_files}
+use Rattle.outline_meaning.specs.declared.status.Status.{Status}
+use Rattle.outline_meaning.specs.Scope.{taken_order}
+use Rattle.outline_meaning.specs.Outcome.{Outcome}
+use Rattle.outline_meaning.specs.Meaning.{roles, Loaded, Loads, read, input_bytes, file_of, delivered_to, order_made, Answer, answered, member_files, based_files, all_files}
 use Rattle.outline_cmd.specs.Tasks.{over, order_made_of}
-use Rattle.outline_cmd.proofs.MeaningLaws.{read_is}
+use Rattle.outline_meaning.proofs.MeaningLaws.{read_is}
 
 -- ---- over the loads of a command
 

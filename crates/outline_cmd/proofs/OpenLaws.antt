@@ -3,13 +3,13 @@ use Rattle.std.proofs.Common.{◌≡◌, ◌≢◌, ℕ, ◌≤◌, Bool, true, 
 use Rattle.std.specs.List.{list_any}
 use Rattle.model.specs.File.{File, Kind, member_file, bundle, snapshot, kind_number, file_limit}
 use Rattle.replica.specs.Scanning.{ScanAnswer}
-use Rattle.outline_cmd.specs.declared.status.Status.TheVariants as s
-use Rattle.outline_cmd.specs.Meaning.{scanned, opened, member_files, based_files}
-use Rattle.outline_cmd.specs.Opened.{IsScanned, AreKinds}
-use Rattle.outline_cmd.specs.Outcome.{provided, of_kind}
-use Rattle.outline_cmd.proofs.BaseLaws.{no_other_base}
-use Rattle.outline_cmd.proofs.LedgerMeaning.{kind_passed}
-use Rattle.outline_cmd.proofs.StepLaws.{on}
+use Rattle.outline_meaning.specs.declared.status.Status.TheVariants as s
+use Rattle.outline_meaning.specs.Meaning.{scanned, opened, member_files, based_files}
+use Rattle.outline_meaning.specs.Opened.{IsScanned, AreKinds}
+use Rattle.outline_meaning.specs.Outcome.{provided, of_kind}
+use Rattle.outline_meaning.proofs.BaseLaws.{no_other_base}
+use Rattle.outline_meaning.proofs.LedgerMeaning.{kind_passed}
+use Rattle.outline_meaning.proofs.StepLaws.{on}
 
 -- ---- scanning
 

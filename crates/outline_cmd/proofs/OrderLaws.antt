@@ -8,10 +8,10 @@ use Rattle.outline_words.specs.Commands.{SaysValue}
 use Rattle.outline_words.specs.declared.command.WordValue.TheVariants as v
 use Rattle.outline_words.specs.Table.{Order, Spell, FirstWrong}
 use Rattle.outline_words.proofs.SpellLaws.{one_order, spelled_not_wrong}
-use Rattle.outline_cmd.specs.Meaning.{ordered}
-use Rattle.outline_cmd.specs.Scope.{names_untaken, taken_words, taken_order}
-use Rattle.outline_cmd.specs.declared.status.Status.{Status}
-use Rattle.outline_cmd.specs.declared.status.Status.TheVariants as s
+use Rattle.outline_meaning.specs.Meaning.{ordered}
+use Rattle.outline_meaning.specs.Scope.{names_untaken, taken_words, taken_order}
+use Rattle.outline_meaning.specs.declared.status.Status.{Status}
+use Rattle.outline_meaning.specs.declared.status.Status.TheVariants as s
 
 -- ---- what words mean
 

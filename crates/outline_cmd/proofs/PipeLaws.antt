@@ -4,17 +4,18 @@ use Rattle.outside.specs.Seen.{Seen}
 use Rattle.outside.specs.Work.{Work}
 use Rattle.outline_words.specs.Table.{Order}
 use Rattle.outline_cmd.specs.declared.answer.Answer.{Answer as AnswerStruct}
-use Rattle.outline_cmd.specs.declared.status.Status.{Status}
-use Rattle.outline_cmd.specs.Input.{KeepsName}
-use Rattle.outline_cmd.specs.Meaning.{Meaning, ◌>>=◌, exactly, Named, roles, Loaded, Loads, input_bytes, unused, Answer, sized, order_made, order_meaning}
-use Rattle.outline_cmd.specs.Run.{AreLoads, IsLoadOf}
-use Rattle.outline_cmd.specs.Scope.{taken_order}
-use Rattle.outline_cmd.specs.Stages.{Refuses, Follows, answer_of}
+use Rattle.outline_meaning.specs.declared.status.Status.{Status}
+use Rattle.outline_input.specs.Input.{KeepsName}
+use Rattle.outline_meaning.specs.Meaning.{Meaning, ◌>>=◌, exactly, Named, roles, Loaded, Loads, input_bytes, unused, Answer, sized, order_made, order_meaning}
+use Rattle.outline_meaning.specs.Run.{AreLoads, IsLoadOf}
+use Rattle.outline_meaning.specs.Scope.{taken_order}
+use Rattle.outline_meaning.specs.Follows.{Refuses, Follows}
+use Rattle.outline_cmd.specs.Stages.{answer_of}
 use Rattle.outline_cmd.specs.Tasks.{order_made_of, over}
-use Rattle.outline_cmd.specs.Works.{OrderWorks}
+use Rattle.outline_meaning.specs.Works.{OrderWorks}
 use Rattle.outline_cmd.proofs.LinkLaws.{made_means, refusal_means, second_read, unread_means}
-use Rattle.outline_cmd.proofs.Loads.{some_load_for, quiet_later, earlier_load, name_kept}
-use Rattle.outline_cmd.proofs.StageLaws.{refuses_first, refuses_by, follows_next}
+use Rattle.outline_input.proofs.Loads.{some_load_for, quiet_later, earlier_load, name_kept}
+use Rattle.outline_meaning.proofs.StageLaws.{refuses_first, refuses_by, follows_next}
 use Rattle.outline_cmd.proofs.WorkLaws.{idle, loaded_work}
 
 -- ---- the stages

@@ -7,13 +7,14 @@ use Rattle.outside.specs.Seen.{Seen}
 use Rattle.outline_words.specs.Table.{Order}
 use Rattle.outline_cmd.specs.declared.answer.Answer.{Answer as AnswerStruct}
 use Rattle.outline_cmd.specs.declared.answer.Store.{Store as StoreStruct}
-use Rattle.outline_cmd.specs.declared.status.Status.{Status}
-use Rattle.outline_cmd.specs.declared.status.Status.TheVariants as s
-use Rattle.outline_cmd.specs.Ending.{Ending, ending, done, unstored, unprinted, no_memory, refused}
-use Rattle.outline_cmd.specs.Meaning.{Meaning, Answer, Loads, missing, ordered, meaning, order_meaning, roles}
-use Rattle.outline_cmd.specs.Run.{Given, Outside, outside_by, AreLoads, AnswersAs, Answers, Runs}
-use Rattle.outline_cmd.specs.Stages.{Refuses, RefusesAs, Finishes, answer_of}
-use Rattle.outline_cmd.proofs.Loads.{later_load}
+use Rattle.outline_meaning.specs.declared.status.Status.{Status}
+use Rattle.outline_meaning.specs.declared.status.Status.TheVariants as s
+use Rattle.outline_meaning.specs.Ending.{Ending, ending, done, unstored, unprinted, no_memory, refused}
+use Rattle.outline_meaning.specs.Meaning.{Meaning, Answer, Loads, missing, ordered, meaning, order_meaning, roles}
+use Rattle.outline_meaning.specs.Run.{Given, Outside, outside_by, AreLoads, AnswersAs, Answers, Runs}
+use Rattle.outline_meaning.specs.Follows.{Refuses, RefusesAs}
+use Rattle.outline_cmd.specs.Stages.{Finishes, answer_of}
+use Rattle.outline_input.proofs.Loads.{later_load}
 use Rattle.outline_cmd.proofs.OrderLaws.{given_once, refused_or_given}
 
 -- ---- a run that has its answer

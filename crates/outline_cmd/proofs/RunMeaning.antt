@@ -11,14 +11,14 @@ use Rattle.model.specs.Stands.{Ledgers, AllStand}
 use Rattle.outline_words.specs.Table.{Order, command, Spell}
 use Rattle.outline_words.proofs.OrderForms.{in_form}
 use Rattle.outline_words.proofs.SpellLaws.{one_order}
-use Rattle.outline_cmd.specs.declared.status.Status.{Status}
-use Rattle.outline_cmd.specs.declared.status.Status.TheVariants as s
-use Rattle.outline_cmd.specs.Meaning.{Meaning, Answer, Roles, roles, Loads, ordered, order_meaning, meaning}
-use Rattle.outline_cmd.specs.Run.{AreOf, AreLoads, Outside, with_store, Stored, Printed, Answers, Runs}
-use Rattle.outline_cmd.specs.Ledgers.{ShowsFile, ShowsLedger, IsDone, KeepsLedgers}
-use Rattle.outline_cmd.proofs.Loads.{of_load}
+use Rattle.outline_meaning.specs.declared.status.Status.{Status}
+use Rattle.outline_meaning.specs.declared.status.Status.TheVariants as s
+use Rattle.outline_meaning.specs.Meaning.{Meaning, Answer, Roles, roles, Loads, ordered, order_meaning, meaning}
+use Rattle.outline_meaning.specs.Run.{AreOf, AreLoads, Outside, with_store, Stored, Printed, Answers, Runs}
+use Rattle.outline_meaning.specs.Ledgers.{ShowsFile, ShowsLedger, IsDone, KeepsLedgers}
+use Rattle.outline_input.proofs.Loads.{of_load}
 use Rattle.outline_cmd.proofs.OrderLaws.{given_parts, given_once}
-use Rattle.outline_cmd.proofs.LedgerMeaning.{IsShown, is_shown, one_held, shown_of_ledger, keeps_ledgers}
+use Rattle.outline_meaning.proofs.LedgerMeaning.{IsShown, is_shown, one_held, shown_of_ledger, keeps_ledgers}
 
 -- The loads of a run bring what its files hold, where they are told.
 pub loads_of : (old new : Seen) (files : Files) (r : Roles) (loads : Loads) → old.files ≡ Some files → AreLoads old new r loads → AreOf files r loads

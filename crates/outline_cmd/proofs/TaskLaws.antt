@@ -3,7 +3,7 @@ use Rattle.std.proofs.Common.{◌≡◌, Ok, refl}
 use Rattle.outline_words.specs.Table.{Order}
 use Rattle.outline_cmd.specs.declared.scope.Task.{Task}
 use Rattle.outline_cmd.specs.declared.scope.Task.TheVariants as t
-use Rattle.outline_cmd.specs.Scope.{taken_order}
+use Rattle.outline_meaning.specs.Scope.{taken_order}
 use Rattle.outline_cmd.specs.Tasks.{Tells, Does}
 
 tells_taken : (task : Task) (order : Order) → Tells task order → taken_order order ≡ Ok tt

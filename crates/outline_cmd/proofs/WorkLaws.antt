@@ -10,10 +10,10 @@ use Rattle.model.specs.Stands.{IsStored}
 use Rattle.doc_store.specs.Documents.{DecodesSome}
 use Rattle.member_replica.specs.Work.{operations_in, readied_in}
 use Rattle.outline_words.specs.Table.{Order, command}
-use Rattle.outline_cmd.specs.Meaning.{Loaded, whole, Loads, input_bytes, roles}
+use Rattle.outline_meaning.specs.Meaning.{Loaded, whole, Loads, input_bytes, roles}
 use Rattle.outline_cmd.specs.Tasks.{over}
-use Rattle.outline_cmd.specs.Works.{AtMost, BringsFile, ReadsOne, ReadsTwo, OrderWorks}
-use Rattle.outline_cmd.proofs.MeaningLaws.{read_is}
+use Rattle.outline_meaning.specs.Works.{AtMost, BringsFile, ReadsOne, ReadsTwo, OrderWorks}
+use Rattle.outline_meaning.proofs.MeaningLaws.{read_is}
 
 -- ---- bounds
 

@@ -1,17 +1,3 @@
-pub mod FaultText
-pub mod Status
-pub mod Outcome
-pub mod Sample
-pub mod Scope
-pub mod Meaning
-pub mod Ending
-pub mod Works
-pub mod Run
-pub mod Ledgers
-pub mod OfBytes
-pub mod Script
 pub mod Tasks
-pub mod Opened
 pub mod Made
 pub mod Stages
-pub mod Input

@@ -3,8 +3,8 @@ use Rattle.std.specs.Prelude.{List, Result}
 use Rattle.model.specs.Change.{Change}
 use Rattle.model.specs.Command.{Unmade}
 use Rattle.model.specs.File.{File}
-use Rattle.outline_cmd.specs.Outcome.{Outcome, ◌>>=◌, told, with_made_lines}
-use Rattle.outline_cmd.specs.declared.status.Status.{Status}
+use Rattle.outline_meaning.specs.Outcome.{Outcome, ◌>>=◌, told, with_made_lines}
+use Rattle.outline_meaning.specs.declared.status.Status.{Status}
 
 -- the file with the changes that its members made, and their lines, or why nothing was made
 abbrev pub made_outcome : File → Result (List Change) Unmade → Result Outcome Status

@@ -12,8 +12,8 @@ use Rattle.outline_words.specs.declared.command.WordValue.TheVariants as v
 use Rattle.outline_cmd.specs.declared.edit_words.EditWords.{EditWords}
 use Rattle.outline_cmd.specs.declared.scope.Task.{Task}
 use Rattle.outline_cmd.specs.declared.scope.Task.TheVariants as t
-use Rattle.outline_cmd.specs.Meaning.{Meaning, ◌>>=◌, exactly, Loaded, missing, whole, Loads, Roles, roles, Answer, order_made, answered}
-use Rattle.outline_cmd.specs.Outcome.{Outcome}
+use Rattle.outline_meaning.specs.Meaning.{Meaning, ◌>>=◌, exactly, Loaded, missing, whole, Loads, Roles, roles, Answer, order_made, answered}
+use Rattle.outline_meaning.specs.Outcome.{Outcome}
 
 -- the edit with this value, if it is one that has a value
 abbrev pub with_value : Edit → model.Value → Edit

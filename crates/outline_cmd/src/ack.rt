@@ -4,15 +4,16 @@ ghost use Rattle.std.specs.Prelude.{◌≤◌, length};
 ghost use Rattle.model.specs.Command.{ack as acknowledges};
 ghost use Rattle.model.specs.File.{file_limit};
 ghost use Rattle.outline_words.specs.Table.{command};
-ghost use Rattle.outline_cmd.specs.Meaning.{Loaded};
-ghost use Rattle.outline_cmd.specs.Stages.{answer_of, Follows};
+ghost use Rattle.outline_meaning.specs.Meaning.{Loaded};
+ghost use Rattle.outline_meaning.specs.Follows.{Follows};
+ghost use Rattle.outline_cmd.specs.Stages.{answer_of};
 ghost use Rattle.outline_cmd.specs.Tasks.{order_made_of};
 
 use crate::answer::Answer;
 use crate::edit::made_answer;
 use crate::opened::open;
-use crate::status::Status;
 use member_replica::ack;
+use outline_meaning::Status;
 use replica::MEMBER_FILE;
 use std::alloc::Global;
 

@@ -9,11 +9,11 @@ ghost use Rattle.doc_store.specs.Edits.{edit_of};
 ghost use Rattle.outline_words.specs.Commands.{SaysValue};
 ghost use Rattle.outline_words.specs.Forms.{IsWordValue};
 ghost use Rattle.outline_cmd.specs.Tasks.{GivesValue, with_value};
-ghost use Rattle.outline_cmd.specs.declared.status.Status.TheVariants.{NoMemory};
+ghost use Rattle.outline_meaning.specs.declared.status.Status.TheVariants.{NoMemory};
 
-use crate::status::Status;
 use doc_store::Edit;
 use op_grammar::Value;
+use outline_meaning::Status;
 use outline_words::WordValue;
 use std::alloc::Global;
 

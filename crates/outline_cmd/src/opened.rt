@@ -4,13 +4,13 @@ ghost use Rattle.std.specs.Prelude.{◌≡◌, ◌≢◌, ◌≤◌, ◌*◌, Li
 ghost use Rattle.model.specs.File.{File, Kind, bundle, kind_number, file_limit};
 ghost use Rattle.doc_store.specs.Documents.{DecodesSome};
 ghost use Rattle.member_replica.specs.Work.{operations_in};
-ghost use Rattle.outline_cmd.specs.Meaning.{exactly, scanned, opened};
-ghost use Rattle.outline_cmd.specs.Opened.{IsScanned, AreKinds};
-ghost use Rattle.outline_cmd.specs.Outcome.{fitting, of_kind};
-ghost use Rattle.outline_cmd.specs.Stages.{Follows};
+ghost use Rattle.outline_meaning.specs.Meaning.{exactly, scanned, opened};
+ghost use Rattle.outline_meaning.specs.Opened.{IsScanned, AreKinds};
+ghost use Rattle.outline_meaning.specs.Outcome.{fitting, of_kind};
+ghost use Rattle.outline_meaning.specs.Follows.{Follows};
 
-use crate::status::Status;
 use member_replica::{BuildFault, Replica};
+use outline_meaning::Status;
 use outside::Tally;
 use replica::{FileParts, ScanFault, scan_file};
 use std::alloc::Global;

@@ -2,11 +2,11 @@
 
 ghost use Rattle.std.specs.Prelude.{◌≡◌, IfOk};
 ghost use Rattle.model.specs.File.{File};
-ghost use Rattle.outline_cmd.specs.Meaning.{exactly};
-ghost use Rattle.outline_cmd.specs.Outcome.{document_ref, same_document};
-ghost use Rattle.outline_cmd.specs.Stages.{Follows};
+ghost use Rattle.outline_meaning.specs.Meaning.{exactly};
+ghost use Rattle.outline_meaning.specs.Outcome.{document_ref, same_document};
+ghost use Rattle.outline_meaning.specs.Follows.{Follows};
 
-use crate::status::Status;
+use outline_meaning::Status;
 use replica::DocRef;
 
 /// Finds that the document of a file is this other one.

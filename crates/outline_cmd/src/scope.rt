@@ -7,16 +7,16 @@ ghost use Rattle.doc_store.specs.Edits.{edit_of};
 ghost use Rattle.outline_words.specs.Commands.{IsOrder, Says, SaysValue};
 ghost use Rattle.outline_words.specs.Forms.{IsWordValue};
 ghost use Rattle.outline_words.specs.Table.{Order, edited};
-ghost use Rattle.outline_cmd.specs.Meaning.{roles};
-ghost use Rattle.outline_cmd.specs.Scope.{untaken_names, is_one_of, taken_order, names_untaken as names_an_untaken};
-ghost use Rattle.outline_cmd.specs.Stages.{named_of};
+ghost use Rattle.outline_meaning.specs.Meaning.{roles};
+ghost use Rattle.outline_meaning.specs.Scope.{untaken_names, is_one_of, taken_order, names_untaken as names_an_untaken};
+ghost use Rattle.outline_input.specs.Input.{named_of};
 ghost use Rattle.outline_cmd.specs.Tasks.{Does, Tells, with_value};
 
 use crate::edit_words::EditWords;
-use crate::input::Named;
-use crate::status::Status;
 use doc_store::Edit;
 use op_grammar::Value;
+use outline_input::Named;
+use outline_meaning::Status;
 use outline_words::{Command, WordValue, Words};
 use version_vector::Vector;
 

@@ -3,8 +3,8 @@ use Rattle.std.proofs.lemmas.Result.{err_from_is_err_and}
 use Rattle.model.specs.Command.{made_acks}
 use Rattle.model.specs.Held.{held_behind}
 use Rattle.model.specs.Reading.{base_in}
-use Rattle.outline_cmd.specs.Meaning.{member_files, reads}
-use Rattle.outline_cmd.specs.Outcome.{acknowledged}
+use Rattle.outline_meaning.specs.Meaning.{member_files, reads}
+use Rattle.outline_meaning.specs.Outcome.{acknowledged}
 use Rattle.outline_cmd.proofs.InputLaws.{input_refuses, input_follows}
 use Rattle.outline_cmd.proofs.OpenLaws.{not_among_members, opened_based}
 use Rattle.outline_cmd.proofs.ack.ack_file.Goals as goal

@@ -1,7 +1,7 @@
 use Rattle.std.proofs.Common.{refl}
 use Rattle.std.proofs.lemmas.Result.{err_from_is_err_and}
-use Rattle.outline_cmd.specs.Meaning.{member_files, reads_and_makes}
-use Rattle.outline_cmd.specs.Outcome.{bundled}
+use Rattle.outline_meaning.specs.Meaning.{member_files, reads_and_makes}
+use Rattle.outline_meaning.specs.Outcome.{bundled}
 use Rattle.outline_cmd.proofs.InputLaws.{input_refuses, input_follows}
 use Rattle.outline_cmd.proofs.bundle.bundle_file.Goals as goal
 

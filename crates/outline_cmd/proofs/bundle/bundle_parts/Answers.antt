@@ -4,9 +4,9 @@ use Rattle.std.proofs.lemmas.Result.{err_from_is_err_and}
 use Rattle.model.specs.File.{File, spell_file}
 use Rattle.model.specs.Text.{field}
 use Rattle.replica.specs.declared.head.FileHead.{FileHead}
-use Rattle.outline_cmd.specs.Meaning.{exactly, reads_and_makes}
-use Rattle.outline_cmd.specs.Outcome.{same_document}
-use Rattle.outline_cmd.specs.Stages.{Refuses}
+use Rattle.outline_meaning.specs.Meaning.{exactly, reads_and_makes}
+use Rattle.outline_meaning.specs.Outcome.{same_document}
+use Rattle.outline_meaning.specs.Follows.{Refuses}
 use Rattle.outline_cmd.proofs.BundleLaws.{bundle_apart, bundle_means}
 use Rattle.outline_cmd.proofs.bundle.bundle_parts.Goals as goal
 

@@ -1,10 +1,10 @@
 use Rattle.std.proofs.Common.{Ok, inl, inr, refl, subst}
 use Rattle.std.proofs.lemmas.Result.{err_from_is_err_and}
-use Rattle.outline_cmd.specs.Meaning.{exactly, read, reads_two, member_files, opened}
-use Rattle.outline_cmd.specs.Stages.{Follows}
+use Rattle.outline_meaning.specs.Meaning.{exactly, read, reads_two, member_files, opened}
+use Rattle.outline_meaning.specs.Follows.{Follows}
 use Rattle.outline_cmd.proofs.DeliverLaws.{bundles, first_refused, second_refused, both_follow, member_opened}
-use Rattle.outline_cmd.proofs.StageLaws.{refuses_first, refuses_next}
-use Rattle.outline_cmd.proofs.MeaningLaws.{read_is}
+use Rattle.outline_meaning.proofs.StageLaws.{refuses_first, refuses_next}
+use Rattle.outline_meaning.proofs.MeaningLaws.{read_is}
 use Rattle.outline_cmd.proofs.WorkLaws.{brings_whole, only_decodes}
 use Rattle.outline_cmd.proofs.deliver.deliver_file.Goals as goal
 

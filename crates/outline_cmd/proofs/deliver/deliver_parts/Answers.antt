@@ -6,9 +6,9 @@ use Rattle.model.specs.Text.{report_text}
 use Rattle.member_replica.specs.Reports.{IsReport}
 use Rattle.replica.specs.declared.head.FileHead.{FileHead}
 use Rattle.replica.specs.declared.head.DocRef.{DocRef}
-use Rattle.outline_cmd.specs.Meaning.{exactly, reads_two}
-use Rattle.outline_cmd.specs.Outcome.{same_document}
-use Rattle.outline_cmd.specs.Stages.{Refuses}
+use Rattle.outline_meaning.specs.Meaning.{exactly, reads_two}
+use Rattle.outline_meaning.specs.Outcome.{same_document}
+use Rattle.outline_meaning.specs.Follows.{Refuses}
 use Rattle.outline_cmd.proofs.DeliverLaws.{delivery_apart, delivery_means}
 use Rattle.outline_cmd.proofs.WorkLaws.{decodes_none, builds_only, builds_and_receives}
 use Rattle.outline_cmd.proofs.deliver.deliver_parts.Goals as goal

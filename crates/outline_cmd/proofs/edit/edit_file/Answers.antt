@@ -8,15 +8,15 @@ use Rattle.doc_store.specs.Edits.{edit_of}
 use Rattle.keeping_laws.specs.Forms.{IsEdit}
 use Rattle.replica.specs.declared.head.FileHead.{FileHead}
 use Rattle.member_replica.specs.Making.{Makes}
-use Rattle.outline_cmd.specs.Meaning.{member_files, reads}
+use Rattle.outline_meaning.specs.Meaning.{member_files, reads}
 use Rattle.model.specs.Stands.{IsStored}
 use Rattle.outline_cmd.specs.Made.{made_outcome}
-use Rattle.outline_cmd.specs.Outcome.{edited}
+use Rattle.outline_meaning.specs.Outcome.{edited}
 use Rattle.outline_cmd.specs.Tasks.{GivesValue}
-use Rattle.outline_cmd.specs.declared.status.Status.TheVariants as s
+use Rattle.outline_meaning.specs.declared.status.Status.TheVariants as s
 use Rattle.replica.specs.declared.fault.MemberFault.TheVariants.{Nobody}
 use Rattle.outline_cmd.proofs.InputLaws.{input_refuses, input_follows, same_follows, edit_nobody, edit_somebody, edit_unfit, edit_is}
-use Rattle.outline_cmd.proofs.LedgerMeaning.{edit_form}
+use Rattle.outline_meaning.proofs.LedgerMeaning.{edit_form}
 use Rattle.outline_cmd.proofs.OpenLaws.{not_among_members, opened_based}
 use Rattle.outline_cmd.proofs.WorkLaws.{reads_only, reads_and_moves}
 use Rattle.outline_cmd.proofs.edit.edit_file.Goals as goal

@@ -1,6 +1,6 @@
 use Rattle.std.proofs.Common.{subst}
 use Rattle.member_replica.specs.Making.{Makes}
-use Rattle.outline_cmd.specs.Meaning.{reads}
+use Rattle.outline_meaning.specs.Meaning.{reads}
 use Rattle.outline_cmd.proofs.InputLaws.{made_means, made_refuses}
 use Rattle.outline_cmd.proofs.edit.made_answer.Goals as goal
 

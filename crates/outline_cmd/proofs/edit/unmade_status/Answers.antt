@@ -1,8 +1,8 @@
 use Rattle.std.proofs.Common.{Err, sym, ap, subst, ◌∙◌}
 use Rattle.member_replica.specs.Making.{Makes}
 use Rattle.member_replica.specs.declared.made.MakeFault.{MakeFault}
-use Rattle.outline_cmd.specs.Outcome.{told}
-use Rattle.outline_cmd.specs.declared.status.Status.TheVariants as s
+use Rattle.outline_meaning.specs.Outcome.{told}
+use Rattle.outline_meaning.specs.declared.status.Status.TheVariants as s
 use Rattle.outline_cmd.proofs.InputLaws.{edit_fault_again}
 use Rattle.outline_cmd.proofs.edit.unmade_status.Goals as goal
 

@@ -1,8 +1,8 @@
 use Rattle.std.proofs.Common.{ap}
 use Rattle.std.proofs.lemmas.Result.{err_from_is_err_and}
 use Rattle.replica.specs.declared.head.FileHead.{FileHead}
-use Rattle.outline_cmd.specs.Meaning.{scanned}
-use Rattle.outline_cmd.proofs.StageLaws.{refuses_next}
+use Rattle.outline_meaning.specs.Meaning.{scanned}
+use Rattle.outline_meaning.proofs.StageLaws.{refuses_next}
 use Rattle.outline_cmd.proofs.opened.open.Goals as goal
 
 pub returns-in_err-check_kind-clause-told : goal.returns-in_err-check_kind-clause-told

@@ -1,6 +1,6 @@
 use Rattle.std.proofs.Common.{Err, sym, ap, ◌∙◌}
-use Rattle.outline_cmd.specs.Outcome.{refused_told}
-use Rattle.outline_cmd.specs.declared.status.Status.TheVariants as s
+use Rattle.outline_meaning.specs.Outcome.{refused_told}
+use Rattle.outline_meaning.specs.declared.status.Status.TheVariants as s
 use Rattle.outline_cmd.proofs.InputLaws.{misfit_again}
 use Rattle.outline_cmd.proofs.opened.replica_of.Goals as goal
 

@@ -1,5 +1,5 @@
 use Rattle.std.proofs.Common.{Ok, Err, refl}
-use Rattle.outline_cmd.specs.declared.status.Status.TheVariants as s
+use Rattle.outline_meaning.specs.declared.status.Status.TheVariants as s
 use Rattle.outline_cmd.proofs.OpenLaws.{scan_is, scan_means}
 use Rattle.outline_cmd.proofs.opened.scan.Goals as goal
 

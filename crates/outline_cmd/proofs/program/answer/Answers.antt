@@ -2,9 +2,11 @@ use Rattle.std.proofs.Common.{Option, Ok, Err, subst}
 use Rattle.std.proofs.lemmas.Result.{err_from_is_err_and}
 use Rattle.std.specs.Option.{option_map}
 use Rattle.outside.specs.Seen.{seen_by}
-use Rattle.outline_cmd.specs.Meaning.{exactly, input_bytes, unused, Named}
-use Rattle.outline_cmd.specs.Stages.{answer_of, named_of, Follows}
-use Rattle.outline_cmd.proofs.StageLaws.{refuses_first, refuses_next}
+use Rattle.outline_meaning.specs.Meaning.{exactly, input_bytes, unused, Named}
+use Rattle.outline_meaning.specs.Follows.{Follows}
+use Rattle.outline_input.specs.Input.{named_of}
+use Rattle.outline_cmd.specs.Stages.{answer_of}
+use Rattle.outline_meaning.proofs.StageLaws.{refuses_first, refuses_next}
 use Rattle.outline_cmd.proofs.TaskLaws.{does_taken}
 use Rattle.outline_cmd.proofs.PipeLaws.{input_refused, are_loaded, make_refused, made_ends}
 use Rattle.outline_cmd.proofs.program.answer.Goals as goal

@@ -1,8 +1,8 @@
 use Rattle.std.proofs.Common.{List, ℕ, None, Ok, Err, refl, ap}
 use Rattle.replica.specs.declared.fault.BadFile.TheVariants as bad
-use Rattle.outline_cmd.specs.Outcome.{Outcome}
-use Rattle.outline_cmd.specs.declared.status.Status.TheVariants as s
-use Rattle.outline_cmd.proofs.Loads.{read_held}
+use Rattle.outline_meaning.specs.Outcome.{Outcome}
+use Rattle.outline_meaning.specs.declared.status.Status.TheVariants as s
+use Rattle.outline_input.proofs.Loads.{read_held}
 use Rattle.outline_cmd.proofs.program.items.Goals as goal
 
 abbrev printing : List ℕ → Outcome

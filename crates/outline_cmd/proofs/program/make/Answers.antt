@@ -1,10 +1,11 @@
 use Rattle.std.proofs.Common.{sym, subst}
 use Rattle.outline_words.specs.Commands.{IsOrder}
 use Rattle.outline_words.specs.Table.{Order}
-use Rattle.outline_cmd.specs.Meaning.{exactly, input_bytes, roles}
-use Rattle.outline_cmd.specs.Stages.{answer_of, Follows}
+use Rattle.outline_meaning.specs.Meaning.{exactly, input_bytes, roles}
+use Rattle.outline_meaning.specs.Follows.{Follows}
+use Rattle.outline_cmd.specs.Stages.{answer_of}
 use Rattle.outline_cmd.specs.Tasks.{Tells, order_made_of, over}
-use Rattle.outline_cmd.specs.Works.{OrderWorks}
+use Rattle.outline_meaning.specs.Works.{OrderWorks}
 use Rattle.outline_cmd.specs.declared.scope.Task.{Task}
 use Rattle.outline_cmd.proofs.WorkLaws.{idle}
 use Rattle.outline_cmd.proofs.program.make.Goals as goal

@@ -1,11 +1,11 @@
 use Rattle.std.proofs.Common.{◌≡◌, Ok, Err, sym}
 use Rattle.outline_words.specs.Table.{Order}
 use Rattle.outline_words.proofs.OrderForms.{in_form}
-use Rattle.outline_cmd.specs.Meaning.{ordered}
-use Rattle.outline_cmd.specs.Scope.{taken_order}
+use Rattle.outline_meaning.specs.Meaning.{ordered}
+use Rattle.outline_meaning.specs.Scope.{taken_order}
 use Rattle.outline_cmd.specs.Tasks.{Does}
 use Rattle.outline_cmd.specs.declared.scope.Task.{Task}
-use Rattle.outline_cmd.specs.declared.status.Status.{Status}
+use Rattle.outline_meaning.specs.declared.status.Status.{Status}
 use Rattle.outline_cmd.proofs.OrderLaws.{wrong_refused, order_refused, order_given, if_ok, if_err}
 use Rattle.outline_cmd.proofs.program.read_task.Goals as goal
 

@@ -1,9 +1,9 @@
 use Rattle.std.proofs.Common.{ap, subst}
 use Rattle.outside.specs.Seen.{seen_by}
 use Rattle.outline_words.specs.Table.{Order}
-use Rattle.outline_cmd.specs.Meaning.{Loads, roles}
-use Rattle.outline_cmd.specs.Run.{AreLoads, given_by, outside_by}
-use Rattle.outline_cmd.specs.Works.{OrderWorks}
+use Rattle.outline_meaning.specs.Meaning.{Loads, roles}
+use Rattle.outline_meaning.specs.Run.{AreLoads, given_by, outside_by}
+use Rattle.outline_meaning.specs.Works.{OrderWorks}
 use Rattle.outline_cmd.proofs.RunMeaning.{run_shows, run_shows_ledger, run_keeps_ledgers}
 use Rattle.outline_cmd.proofs.OrderLaws.{given_once, refused_or_given}
 use Rattle.outline_cmd.proofs.RunEnds.{later_loads, runs_wrong, runs_refused, runs_finished}

@@ -4,8 +4,8 @@ use Rattle.std.proofs.lemmas.Bool.{eqb-true}
 use Rattle.model.specs.File.{File}
 use Rattle.model_laws.proofs.Tables.{both_true}
 use Rattle.replica.specs.declared.head.DocRef.{DocRef}
-use Rattle.outline_cmd.specs.Outcome.{document_ref, provided, same_document}
-use Rattle.outline_cmd.specs.declared.status.Status.TheVariants as s
+use Rattle.outline_meaning.specs.Outcome.{document_ref, provided, same_document}
+use Rattle.outline_meaning.specs.declared.status.Status.TheVariants as s
 use Rattle.outline_cmd.proofs.same_document.check_document.Goals as goal
 
 told_by : (f : File) (left right : DocRef) (b : Bool) → left ≡ document_ref f.document f.members → b ≡ (bytes_eq left.id right.id && eqb left.n right.n) → same_document f right.id right.n ≡ provided b (s.OtherDocument left right)

@@ -4,8 +4,8 @@ use Rattle.model.specs.Reading.{state_in}
 use Rattle.model.specs.Text.{show_text}
 use Rattle.model.specs.View.{view}
 use Rattle.outline_cmd.specs.declared.answer.Answer.{Answer}
-use Rattle.outline_cmd.specs.Meaning.{based_files, reads}
-use Rattle.outline_cmd.specs.Outcome.{fitting, printed, shown}
+use Rattle.outline_meaning.specs.Meaning.{based_files, reads}
+use Rattle.outline_meaning.specs.Outcome.{fitting, printed, shown}
 use Rattle.outline_cmd.proofs.InputLaws.{input_refuses, input_follows, step_refuses, show_means}
 use Rattle.outline_cmd.proofs.OpenLaws.{not_among_based, opened_based}
 use Rattle.outline_cmd.proofs.WorkLaws.{reads_only, reads_and_moves}

@@ -1,8 +1,0 @@
-use Rattle.outline_cmd.proofs.MeantLaws.{one_meant, one_outcome}
-use Rattle.outline_cmd.proofs.laws.one_is_meant.Goals as goal
-
-pub returns-clause-order : goal.returns-clause-order
-returns-clause-order c = one_meant
-
-pub returns-clause-words : goal.returns-clause-words
-returns-clause-words c = one_outcome

@@ -1,5 +1,0 @@
-use Rattle.outline_cmd.proofs.MeantLaws.{some_outcome}
-use Rattle.outline_cmd.proofs.laws.some_is_meant.Goals as goal
-
-pub returns : goal.returns
-returns c = some_outcome

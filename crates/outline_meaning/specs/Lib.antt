@@ -1,0 +1,14 @@
+pub mod FaultText
+pub mod Status
+pub mod Outcome
+pub mod Sample
+pub mod Scope
+pub mod Meaning
+pub mod Ending
+pub mod Works
+pub mod Run
+pub mod Ledgers
+pub mod OfBytes
+pub mod Script
+pub mod Opened
+pub mod Follows
