@@ -602,7 +602,7 @@ fn op_of(step: TreeMove) -> Option<OpRef<'static>>
 
 // The draft, settled and then opened again where it is to be.
 fn reopened<'a>(draft: Draft<'a>, settles: bool, tally: &mut Tally) -> Result<Draft<'a>, AllocError>
-    ensures { IfOk result (λ d. document_of d ≡ document_of draft) }
+    ensures { IfOk result (λ d. document_of d ≡ document_of draft.entry) }
 {
     if settles {
         return Ok(Draft::of(draft.settle(tally)?));
@@ -705,11 +705,11 @@ fn edits_are_planned(rt: HostRuntime) -> Result<(), Fail> {
 fn both_orders_show_the_same(rt: HostRuntime) -> Result<(), Fail> {
     let mut tally = Tally::new();
     let early_first = in_two_steps(rt.alloc(), &EARLY, &LATE, &mut tally)?;
+    assert!(rt; shows_all(&early_first)?);
+    assert!(rt; has_all_rows(&early_first)?);
     let late_first = in_two_steps(rt.alloc(), &LATE, &EARLY, &mut tally)?;
-    for doc in [early_first, late_first] {
-        assert!(rt; shows_all(&doc)?);
-        assert!(rt; has_all_rows(&doc)?);
-    }
+    assert!(rt; shows_all(&late_first)?);
+    assert!(rt; has_all_rows(&late_first)?);
     Ok(())
 }
 

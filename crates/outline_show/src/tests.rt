@@ -3,6 +3,7 @@ ghost use Rattle.std.specs.Prelude.{drop, map};
 ghost use Rattle.op_grammar.specs.Sources.{atom_of};
 
 use crate::{log_line, show_text};
+use cbor_det::OwnText;
 use doc_store::{Doc, Draft};
 use op_grammar::{Head, OpRef, OpSource, Value};
 use op_ids::{OpId, ROOT, Side};
@@ -146,8 +147,8 @@ const KEPT: &str = "change 1 2 30 causes 0,0,0 count 4 width 5\n";
 
 const WAITING: &str = "waits 1 2 30 causes 0,0,0 count 4 width 5\n";
 
-// The document of these operations, if they refer right.
-fn small_document(alloc: Global) -> Result<Option<Doc<'static>>, AllocError> {
+// What the document of these operations shows, if they refer right.
+fn small_text(alloc: Global) -> Result<Option<OwnText>, AllocError> {
     let mut tally = Tally::new();
     let draft = Draft::of(Doc::new(alloc));
     match draft.refs_known(
@@ -166,18 +167,16 @@ fn small_document(alloc: Global) -> Result<Option<Doc<'static>>, AllocError> {
                 },
                 &mut tally,
             )?;
-            Ok(Some(draft.settle(&mut tally)?))
+            let doc = draft.settle(&mut tally)?;
+            Ok(Some(show_text(alloc, &doc.view()?)?))
         }
     }
 }
 
 #[test]
 fn a_document_is_shown(rt: HostRuntime) -> Result<(), Fail> {
-    match small_document(rt.alloc())? {
-        Some(doc) => {
-            let text = show_text(rt.alloc(), &doc.view()?)?;
-            assert_eq!(rt; text.text(), SHOWN);
-        }
+    match small_text(rt.alloc())? {
+        Some(text) => assert_eq!(rt; text.text(), SHOWN),
         None => assert!(rt; false),
     }
     Ok(())

@@ -11,7 +11,7 @@ use Rattle.doc_store.proofs.ReferenceLaws.{none_wrong}
 use Rattle.doc_store.proofs.tests.in_two_steps.Goals as goal
 
 pub refs_known-requires : goal.refs_known-requires
-refs_known-requires c κs = ((refl, tt), c.requires.formed)
+refs_known-requires c κs = ((refl, (refl, tt)), c.requires.formed)
 
 pub apply-requires : goal.apply-requires
 apply-requires c κs =
@@ -22,7 +22,7 @@ apply-requires c κs =
     ((refl, tt), (c.requires.formed, (refer, (c.requires.rise, free_in d [] (parts_of ops) is (all_of_any (λ a. IsFresh [] a.id) (λ a. tt) (parts_of ops))))))
 
 pub refs_known-requires-2 : goal.refs_known-requires-2
-refs_known-requires-2 c κs = ((refl, tt), c.requires.others_formed)
+refs_known-requires-2 c κs = ((refl, (refl, tt)), c.requires.others_formed)
 
 pub apply-requires-2 : goal.apply-requires-2
 apply-requires-2 c κs =

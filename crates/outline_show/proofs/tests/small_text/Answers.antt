@@ -11,7 +11,7 @@ use Rattle.model.specs.State.{Atom, empty_state, right_of, row_cmp}
 use Rattle.doc_store.specs.Documents.{HasNoRow, IsFormed, IsOwnId, parts_of}
 use Rattle.model_laws.specs.Arrival.{Rises}
 use Rattle.doc_store.specs.Kept.{document_of, state_of}
-use Rattle.outline_show.proofs.tests.small_document.Goals as goal
+use Rattle.outline_show.proofs.tests.small_text.Goals as goal
 
 abbrev own : ℕ → OpId
 own k = record { time = 1; member = 0; index = k }
@@ -95,7 +95,7 @@ all_rise = (
 )
 
 pub refs_known-requires : goal.refs_known-requires
-refs_known-requires c κs = ((refl, tt), all_formed)
+refs_known-requires c κs = ((refl, (refl, tt)), all_formed)
 
 pub apply-requires : goal.apply-requires
 apply-requires c κs =
